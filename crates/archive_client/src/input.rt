@@ -1,3 +1,5 @@
+//! What a datagram means to a client in its phase.
+
 /// What a datagram means to a client.
 #[derive(Clone, Copy)]
 pub(crate) enum Input<'a> {

@@ -1,3 +1,5 @@
+//! The phases of a client, from its request to its end.
+
 ghost use Rattle.std.specs.Prelude.{◌≡◌};
 ghost use Rattle.archive_client.specs.View.{bound_peer};
 

@@ -1,3 +1,5 @@
+//! What the caller sees of a client's phase.
+
 use tftp_packet::Cause;
 
 /// How far a client has got.

@@ -1,3 +1,5 @@
+//! The fault of a file that has too many blocks.
+
 use std::alloc::{Allocator, Global};
 
 /// A file of more than `MAX_FILE` bytes, which has more blocks than can be numbered. Nothing was started.

@@ -1,3 +1,5 @@
+//! Why a file was not added to the history.
+
 ghost use Rattle.std.specs.Prelude.{Some};
 ghost use Rattle.archive_history.specs.HistoryFault.{history_fault_text};
 

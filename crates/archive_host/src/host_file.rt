@@ -1,3 +1,5 @@
+//! A new file of a folder of the system.
+
 ghost use Rattle.std.specs.Prelude.{◌≡◌, None};
 
 use std::fs::File;

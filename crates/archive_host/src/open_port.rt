@@ -1,3 +1,5 @@
+//! A port that is open, and its socket.
+
 ghost use Rattle.std.specs.Prelude.{◌≡◌, ◌≤◌, true, Some, IfOk, OnErr, IfSome, IfNone};
 ghost use Rattle.std.specs.Option.{option_or};
 ghost use Rattle.archive_host.specs.declared.unread.Unread.TheVariants.{Nothing, Perhaps, Reported};

@@ -1,3 +1,5 @@
+//! The open ports, and whose turn it is among those with unread datagrams.
+
 ghost use Rattle.std.specs.Prelude.{◌≡◌, ◌≢◌, ◌<◌, ◌++◌, ◌∷◌, [], length, map, All, IfSome, IfNone, OnOk, OnErr, slice_get, Some};
 ghost use Rattle.archive_wire.specs.Wire.{lesser};
 ghost use Rattle.archive_host.specs.Arrivals.{first_port, ready_least, ready_above, one_may_have_more, marked_read, Closes};

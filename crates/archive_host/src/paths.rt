@@ -1,3 +1,5 @@
+//! The paths of the archive's files.
+
 ghost use Rattle.std.specs.Prelude.{◌≡◌, codes, IfOk};
 ghost use Rattle.std.specs.Path.{path_bytes, path_buf_bytes, path_join};
 ghost use Rattle.archive_host.specs.Paths.{path_of};

@@ -1,3 +1,5 @@
+//! The order in which ports for transfers are taken.
+
 ghost use Rattle.std.specs.Prelude.{◌≡◌, ◌<◌, ◌+◌, ◌%◌, vec_len, IfOk, Some, None};
 ghost use Rattle.archive_host.specs.Drawing.{Draws};
 ghost use Rattle.archive_host.specs.declared.port_deck.TheConstants.{LEN};

@@ -1,3 +1,5 @@
+//! What is known about the unread datagrams at a port.
+
 /// What is known about the unread datagrams at a port. The system reports an arrival only once.
 #[derive(Clone, Copy)]
 pub(crate) enum Unread {

@@ -1,3 +1,5 @@
+//! The system's reports about open ports.
+
 use crate::open_port::OpenPort;
 use crate::open_ports::OpenPorts;
 use mio::{Events, Poll};

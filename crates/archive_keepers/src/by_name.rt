@@ -1,3 +1,5 @@
+//! A value for each file name.
+
 ghost use Rattle.std.specs.Prelude.{◌≡◌, ◌≢◌};
 ghost use Rattle.archive_keepers.specs.declared.file_name.FileName.{FileName};
 ghost use Rattle.archive_keepers.specs.Names.{at_name};

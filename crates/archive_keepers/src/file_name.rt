@@ -1,3 +1,5 @@
+//! The names of the files in the archive's folder.
+
 use tws_file::Ruleset;
 
 /// A file of the archive's folder.

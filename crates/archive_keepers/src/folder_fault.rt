@@ -1,3 +1,5 @@
+//! Why a folder did not keep a collection.
+
 use archive_table::KeepFault;
 use thiserror::Error;
 

@@ -1,3 +1,5 @@
+//! The ghost log of a keeper over another one.
+
 ghost use Rattle.std.specs.Prelude.{◌≡◌, List};
 ghost use Rattle.std.specs.Borrow.{ftrue};
 ghost use Rattle.archive_table.specs.Keeper.{Keeping};

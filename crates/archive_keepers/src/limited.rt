@@ -1,3 +1,5 @@
+//! A keeper with a limit on the length of a collection.
+
 ghost use Rattle.std.specs.Prelude.{◌≡◌, ◌<◌, ◌≤◌, ◌↔◌, [], length, unwrap_or, Err, IfOk, OnOk, IsTrue};
 ghost use Rattle.tws_best.specs.Best.{collection_text};
 ghost use Rattle.archive_table.specs.Keeper.{KeeperGrows, Loads, kept_by, texts_of};

@@ -1,3 +1,5 @@
+//! The keeper of a server without a folder.
+
 ghost use Rattle.std.specs.Prelude.{◌≡◌, None, Ok};
 
 use archive_table::{KeepFault, Keeper};

@@ -1,3 +1,5 @@
+//! A file of the folder in memory.
+
 ghost use Rattle.std.specs.Prelude.{◌≡◌, [], IfOk};
 ghost use Rattle.archive_table.specs.Keeper.{texts_of};
 ghost use Rattle.archive_keepers.specs.declared.file_name.FileName.{FileName};

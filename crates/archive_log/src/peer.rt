@@ -1,3 +1,5 @@
+//! How an endpoint is displayed.
+
 ghost use Rattle.std.specs.Prelude.{◌≡◌};
 ghost use Rattle.std.specs.Net.Text.{socket_v4_text};
 ghost use Rattle.archive_log.specs.Lines.{peer_text};

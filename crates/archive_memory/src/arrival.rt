@@ -1,3 +1,5 @@
+//! Datagrams that are on their way to a wire in memory.
+
 ghost use Rattle.std.specs.Prelude.{◌≤◌, length};
 ghost use Rattle.archive_wire.specs.declared.wire.TheConstants.{RECEIVE_SIZE};
 

@@ -1,3 +1,5 @@
+//! The calls that a wire in memory remembers.
+
 use std::alloc::{Allocator, Global};
 use tftp_packet::{Endpoint, Out};
 use tws_file::Bytes;

@@ -1,3 +1,5 @@
+//! A collection that a keeper in memory was given.
+
 use std::alloc::{Allocator, Global};
 use std::marker::Model;
 use tws_file::Ruleset;

@@ -1,3 +1,5 @@
+//! A keeper in memory.
+
 ghost use Rattle.std.specs.Prelude.{◌≡◌, ◌≢◌, ◌++◌, ◌-◌, ◌==◌, ◌&&◌, ◌≤◌, [], true, false, None, Some, Err, OnOk, IfOk, length, drop};
 ghost use Rattle.std.specs.Option.{option_map};
 ghost use Rattle.tws_best.specs.Best.{collection_text};

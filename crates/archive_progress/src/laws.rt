@@ -1,3 +1,5 @@
+//! The limits' values, and a worked line.
+
 ghost use Rattle.std.specs.Prelude.{◌≡◌, Some, codes};
 ghost use Rattle.archive_progress.specs.Text.{progress_text};
 ghost use Rattle.archive_progress.specs.declared.limits.TheConstants.{DELAY, PAUSE};

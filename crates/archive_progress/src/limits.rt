@@ -1,3 +1,5 @@
+//! The times at which the line is drawn.
+
 /// How many milliseconds a transfer runs before the line is drawn.
 pub const DELAY: u64 = 1000;
 

@@ -1,3 +1,5 @@
+//! How far a transfer has come, and how this is displayed.
+
 ghost use Rattle.std.specs.Prelude.{◌≡◌, ◌++◌, Some};
 ghost use Rattle.archive_progress.specs.Text.{bytes_of, left_of, left_text, progress_text, rate_of};
 

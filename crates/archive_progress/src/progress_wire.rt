@@ -1,3 +1,5 @@
+//! A wire that shows the progress of the transfer over it.
+
 ghost use Rattle.std.specs.Prelude.{◌≡◌, ◌≤◌, [], ◌∷◌, max, true, None, Some, is_some, OnErr, IfErr, IfOk, IfSome};
 ghost use Rattle.tftp_packet.specs.Decode.{decode_bytes};
 ghost use Rattle.byte_output.specs.Failures.{Rises};

@@ -1,3 +1,5 @@
+//! What is counted of a transfer.
+
 ghost use Rattle.std.specs.Prelude.{◌≡◌, ◌-◌, max, true, Some, is_some};
 ghost use Rattle.tftp_packet.specs.Decode.{decode_bytes};
 ghost use Rattle.archive_progress.specs.Tally.{acknowledged, beginning, due_at, is_due, updated, may_draw, new_tally, progress_at};

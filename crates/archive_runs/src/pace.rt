@@ -1,3 +1,5 @@
+//! How long a client waits before it times out.
+
 ghost use Rattle.std.specs.Prelude.{◌≡◌, min};
 ghost use Rattle.archive_runs.specs.Rounds.{asking, dallying, moment_after};
 

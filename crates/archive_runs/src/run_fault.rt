@@ -1,3 +1,5 @@
+//! Why a client's run failed.
+
 use archive_client::Cause;
 use thiserror::Error;
 

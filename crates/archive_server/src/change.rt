@@ -1,3 +1,5 @@
+//! What a visit changed for the live ports.
+
 ghost use Rattle.std.specs.Prelude.{◌≡◌};
 ghost use Rattle.archive_server.specs.Timers.{is_quiet as quiet_change};
 

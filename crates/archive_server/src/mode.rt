@@ -1,3 +1,5 @@
+//! The two ways in which a server visits its ports.
+
 ghost use Rattle.std.specs.Prelude.{◌≡◌};
 ghost use Rattle.archive_server.specs.Timers.{counts, deadline, due_by, is_quiet, noticed, restart};
 

@@ -1,3 +1,5 @@
+//! Which port a server visits next.
+
 /// What a server visits next.
 #[derive(Clone, Copy, Debug, PartialEq, Eq)]
 pub enum Next {

@@ -1,3 +1,5 @@
+//! A server's turns and rounds without an observer.
+
 ghost use Rattle.std.specs.Prelude.{◌≡◌, ◌<◌, ◌≤◌, ◌+◌};
 ghost use Rattle.archive_server.specs.Turn.{MakesTurns, MakesRounds, count_if};
 

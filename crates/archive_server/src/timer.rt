@@ -1,3 +1,5 @@
+//! The timer of a live port.
+
 /// When the transfer at a live port times out.
 #[derive(Clone, Copy, Debug, Default, PartialEq, Eq)]
 pub struct Timer {

@@ -1,3 +1,5 @@
+//! The timers of all live ports.
+
 ghost use Rattle.std.specs.Prelude.{◌≡◌, ℕ, ◌<◌, ◌≤◌, [], ◌++◌, length, map, take, drop, IfSome, IfNone};
 ghost use Rattle.std.specs.List.{insert, remove};
 ghost use Rattle.archive_server.specs.Timers.{with_timer, without_timer, with_due, renewed, lower, lowered, giving_ports, late_ports, is_due as due_at, gives_way as way_given, is_quiet, timed, timed_out, timers_after, restart, earlier, earliest, HasRoom};

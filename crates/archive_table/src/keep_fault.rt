@@ -1,3 +1,5 @@
+//! Why a keeper failed.
+
 use thiserror::Error;
 
 /// Why a keeper did not keep or load a collection.

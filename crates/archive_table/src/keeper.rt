@@ -1,3 +1,5 @@
+//! What keeps the collections over restarts.
+
 ghost use Rattle.std.specs.Prelude.{◌≡◌, ◌≤◌, ℕ, List, Option, Err, IfOk};
 ghost use Rattle.tws_best.specs.Best.{collection_text};
 ghost use Rattle.archive_table.specs.Keeper.{Keeping, KeeperGrows, Loads, kept_by, texts_of};

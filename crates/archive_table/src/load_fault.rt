@@ -1,3 +1,5 @@
+//! Why kept collections were not loaded.
+
 use crate::keep_fault::KeepFault;
 use thiserror::Error;
 use tws_file::FileFault;

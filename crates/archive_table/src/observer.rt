@@ -1,3 +1,5 @@
+//! Who is notified of each step of a table.
+
 use crate::step::Step;
 use crate::table::Table;
 use std::alloc::Allocator;

@@ -1,3 +1,5 @@
+//! A wire that reports which ports are ready.
+
 ghost use Rattle.std.specs.Prelude.{[], ◌∷◌};
 ghost use Rattle.archive_wire.specs.Wire.{Grows, waited};
 

@@ -1,3 +1,5 @@
+//! What sends and receives datagrams at ports.
+
 ghost use Rattle.std.specs.Prelude.{◌≡◌, ◌≤◌, ℕ, List, [], ◌∷◌, Option, OnErr, IfErr, IfOk, IfSome};
 ghost use Rattle.byte_output.specs.Failures.{Rises};
 ghost use Rattle.archive_wire.specs.Wire.{Entry, Grows, opened, closed, sent, port_opened, was_done, received};

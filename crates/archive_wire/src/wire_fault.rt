@@ -1,3 +1,5 @@
+//! Which call of a wire failed.
+
 use thiserror::Error;
 
 /// Which call of a wire failed.

@@ -1,3 +1,5 @@
+//! What a client's step returned.
+
 use std::alloc::{Allocator, Global};
 use tftp_packet::Out;
 use tws_file::Bytes;

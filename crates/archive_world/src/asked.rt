@@ -1,3 +1,5 @@
+//! What a transfer was opened for.
+
 use tws_file::Ruleset;
 
 /// What a transfer was opened for.

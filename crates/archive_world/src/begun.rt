@@ -1,3 +1,5 @@
+//! An operation that has begun.
+
 use crate::op_kind::OpKind;
 use std::alloc::{Allocator, Global};
 use std::marker::Model;

@@ -1,3 +1,5 @@
+//! A datagram with its source and target.
+
 ghost use Rattle.std.specs.Prelude.{◌≡◌, IfOk};
 
 use std::alloc::{AllocError, Allocator, Global};

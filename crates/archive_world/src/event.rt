@@ -1,3 +1,5 @@
+//! The events of a schedule.
+
 use crate::datagram::Datagram;
 use crate::op::Op;
 use std::alloc::{Allocator, Global};

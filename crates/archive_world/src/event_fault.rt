@@ -1,3 +1,5 @@
+//! Why an event fails.
+
 /// Why an event fails.
 #[derive(Clone, Copy)]
 pub(crate) enum EventFault {

@@ -1,3 +1,5 @@
+//! A file that a client has fetched.
+
 use std::alloc::{Allocator, Global};
 use std::marker::Model;
 use tftp_packet::Endpoint;

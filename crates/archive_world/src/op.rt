@@ -1,3 +1,5 @@
+//! An operation of a client.
+
 use crate::op_kind::OpKind;
 use std::alloc::{Allocator, Global};
 use tftp_packet::Endpoint;

@@ -1,3 +1,5 @@
+//! What a client is to do.
+
 ghost use Rattle.std.specs.Prelude.{◌≡◌, IfOk};
 ghost use Rattle.archive_world.specs.View.{operation_of};
 

@@ -1,3 +1,5 @@
+//! A transfer that the server has opened.
+
 use crate::asked::Asked;
 use std::marker::Model;
 use tftp_packet::Endpoint;

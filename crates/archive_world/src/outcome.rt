@@ -1,3 +1,5 @@
+//! The outcome of a run.
+
 use crate::datagram::Datagram;
 use crate::got_file::GotFile;
 use crate::opening::Opening;

@@ -1,3 +1,5 @@
+//! What runs at a client's endpoint.
+
 ghost use Rattle.std.specs.Prelude.{◌≡◌, IfOk, false};
 ghost use Rattle.archive_world.specs.View.{operation_of};
 ghost use Rattle.archive_model.specs.World.{server_endpoint};

@@ -1,3 +1,5 @@
+//! A client and its endpoint.
+
 use crate::running::Running;
 use std::alloc::{Allocator, Global};
 use std::marker::Model;

@@ -1,3 +1,5 @@
+//! The server's endpoint.
+
 use tftp_packet::Endpoint;
 
 /// The server's endpoint: its host and its request port.

@@ -1,3 +1,5 @@
+//! A file that the server has taken.
+
 use std::alloc::{Allocator, Global};
 use std::marker::Model;
 use tftp_packet::Endpoint;

@@ -1,3 +1,5 @@
+//! Why a list of events has no run.
+
 use thiserror::Error;
 
 /// Why a list of events has no run. Events are counted from 0.

@@ -1,3 +1,5 @@
+//! A small buffer for bytes that are written together.
+
 ghost use Rattle.std.specs.Prelude.{◌≡◌, ◌+◌, ◌<◌, ◌≤◌, [], ◌++◌, length, OnOk, OnErr, IfErr};
 ghost use Rattle.byte_output.specs.Output.{Sends, AppendsPrefix};
 

@@ -1,3 +1,5 @@
+//! Why a text was not written in full.
+
 ghost use Rattle.std.specs.Prelude.{◌≡◌};
 ghost use Rattle.byte_output.specs.declared.out_fault.OutFault.TheVariants.{Memory};
 

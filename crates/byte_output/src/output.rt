@@ -1,3 +1,5 @@
+//! Writes bytes in full, and bytes as text.
+
 ghost use Rattle.std.specs.Prelude.{◌≡◌, OnOk, OnErr, IfErr};
 ghost use Rattle.std.specs.Io.KnownBytes.{Appends};
 ghost use Rattle.byte_output.specs.Output.{AppendsPrefix};

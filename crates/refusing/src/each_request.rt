@@ -1,3 +1,5 @@
+//! Runs a test once for each request for memory, which is refused.
+
 ghost use Rattle.std.specs.Prelude.{Err, ◌≡◌, ◌≢◌, ◌⊎◌, ℕ, ◌<◌, ◌≤◌, true, false, IfNone, IfSome, OnOk};
 ghost use Rattle.refusing.specs.declared.each_request.Outcome.{Outcome};
 ghost use Rattle.refusing.specs.declared.each_request.Outcome.TheVariants.{Right, Wrong, OutOfMemory};

@@ -1,3 +1,5 @@
+//! Tests of the allocator that refuses.
+
 // What no clause says: which requests are refused, what the count is, and what is left after a refusal.
 use super::*;
 use std::alloc::Global;

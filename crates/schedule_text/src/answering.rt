@@ -1,3 +1,5 @@
+//! The answer to a schedule.
+
 ghost use Rattle.std.specs.Prelude.{◌≡◌, ℕ, Err, IfOk, string_bytes};
 ghost use Rattle.archive_world.specs.View.{events_of};
 ghost use Rattle.schedule_text.specs.Schedule.{IsFirstBadLine};

@@ -1,3 +1,5 @@
+//! The lines of a text.
+
 ghost use Rattle.std.specs.Prelude.{◌≡◌, IfOk, map};
 ghost use Rattle.schedule_text.specs.Schedule.{lines_of};
 

@@ -1,3 +1,5 @@
+//! Writes the answer to a schedule.
+
 ghost use Rattle.std.specs.Prelude.{◌≡◌, ◌≤◌, ℕ, List};
 ghost use Rattle.std.specs.Io.KnownBytes.{Appends};
 ghost use Rattle.schedule_text.specs.Schedule.{IsFirstBadLine};

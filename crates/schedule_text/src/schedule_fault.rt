@@ -1,3 +1,5 @@
+//! Why a text is no schedule.
+
 ghost use Rattle.std.specs.Prelude.{◌≡◌};
 ghost use Rattle.schedule_text.specs.declared.schedule_fault.ScheduleFault.TheVariants.{Memory};
 

@@ -1,3 +1,5 @@
+//! The words of a line.
+
 ghost use Rattle.std.specs.Prelude.{◌≡◌, ◌++◌, IfOk, OnOk, map, length};
 ghost use Rattle.schedule_text.specs.Schedule.{is_blank, filled, words_of, word_at};
 

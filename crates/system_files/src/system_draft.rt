@@ -1,3 +1,5 @@
+//! The file that a client's output is written to.
+
 ghost use Rattle.std.specs.Prelude.{◌≤◌, length, IfOk};
 
 use crate::draft_file::DraftFile;

@@ -1,3 +1,5 @@
+//! Steps of clients by hand.
+
 // Transfers by hand, from the client's side: RFC 1350 sections 2, 4 and 5.
 use archive_client::{Cause, Get, Put, State, TooLong};
 use std::alloc::Global;

@@ -1,3 +1,5 @@
+//! Drawn steps of clients.
+
 // A thousand runs of one client, each of sixty inputs that may fit or not. A plain program, written from the table of a
 // client's states, predicts what the client sends and its state after each input.
 use archive_client::{Cause, Get, Put, State};

@@ -1,3 +1,5 @@
+//! Packets and requests by the standard's forms.
+
 // Given datagrams and files: what each is by RFC 1350, and what real clients send.
 use std::alloc::Global;
 use std::test::Fail;

@@ -1,3 +1,5 @@
+//! The names of faults.
+
 // The names of the faults of a receiver, as a log or a test prints them.
 use std::alloc::Global;
 use std::test::Fail;

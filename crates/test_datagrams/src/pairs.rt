@@ -1,3 +1,5 @@
+//! A sender and a receiver over a drawn network.
+
 // A thousand runs of one sender and one receiver. Their packets arrive late, repeatedly and out of order, or never.
 use std::alloc::Global;
 use std::test::Fail;

@@ -1,3 +1,5 @@
+//! What merges answer.
+
 // What merges return, and copies.
 use std::alloc::Global;
 use std::test::Fail;

@@ -1,3 +1,5 @@
+//! Files, and the texts of their faults.
+
 // The texts of faults that no command prints, and the body of a solution.
 use std::alloc::Global;
 use std::fmt::Display;

@@ -1,3 +1,5 @@
+//! Files and collections of a large size.
+
 // Large inputs, which would show a limit that no contract names.
 use std::alloc::Global;
 use std::test::Fail;

@@ -1,3 +1,5 @@
+//! Moves that are read, by Tile World's forms.
+
 // Given bytes and the moves that they spell, and a plain slow reader to compare with.
 ghost use Rattle.std.specs.Prelude.{◌<◌, ◌^◌, length};
 

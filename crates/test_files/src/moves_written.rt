@@ -1,3 +1,5 @@
+//! Moves that are written, by Tile World's forms.
+
 // Writing moves, and a plain slow program to compare with, which tries every cut.
 ghost use Rattle.std.specs.Prelude.{◌<◌, ◌^◌, length};
 

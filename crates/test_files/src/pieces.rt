@@ -1,3 +1,5 @@
+//! Files that are read in pieces.
+
 // Files that arrive in pieces, most of them byte by byte.
 ghost use Rattle.std.specs.Prelude.{◌≤◌};
 

@@ -1,3 +1,5 @@
+//! Snapshots of collections.
+
 // Snapshots of collections, and the blocks in which they are sent. The expected texts are written out by hand.
 use crate::collections::{has_text, load};
 use std::test::Fail;

@@ -1,7 +1,9 @@
+//! Two ports of one wire, which are ready in turn.
+
 // A wire over sockets of the system with two ports, each of which is visited when it is ready.
+use crate::wires::{ack, listening, loopback};
 use archive_host::UdpWire;
 use archive_wire::{RECEIVE_SIZE, ReadyWire, Wire, WireFault};
-use crate::wires::{ack, listening, loopback};
 use std::test::Fail;
 use std::time::Instant;
 use tftp_packet::{Endpoint, Packet, decode};

@@ -1,3 +1,5 @@
+//! Ports that other programs have.
+
 // The port that a wire opens next.
 use archive_host::UdpWire;
 use archive_wire::{Wire, WireFault};

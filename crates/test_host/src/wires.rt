@@ -1,7 +1,9 @@
+//! Calls of a wire that the system refuses.
+
 // The wire over sockets of the system.
+use crate::ports::past_port;
 use archive_host::UdpWire;
 use archive_wire::{RECEIVE_SIZE, ReadyWire, Wire, WireFault};
-use crate::ports::past_port;
 use std::net::{Ipv4Addr, SocketAddr, UdpSocket};
 use std::test::Fail;
 use tftp_packet::{Endpoint, Out, encode_ack};

@@ -1,3 +1,5 @@
+//! A crash at each call of a keep.
+
 // Each call of a keep fails in turn, with every later one, and then the program stops.
 use crate::fuse::Fuse;
 use crate::samples::*;

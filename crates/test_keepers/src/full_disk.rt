@@ -1,3 +1,5 @@
+//! Keeps on a disk that is full.
+
 // A folder whose files take only so many bytes.
 ghost use Rattle.std.specs.Prelude.{false};
 

@@ -1,3 +1,5 @@
+//! Collections about the limit.
+
 // A keeper with a limit in bytes. The text of HUNDRED has 28.
 use crate::samples::*;
 use archive_keepers::Limited;

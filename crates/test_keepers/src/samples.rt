@@ -1,3 +1,5 @@
+//! The collections that the tests keep.
+
 // Folders and collections for the tests.
 use archive_keepers::{FolderKeeper, MemoryFolder};
 use archive_table::{KeepFault, Keeper};

@@ -1,3 +1,5 @@
+//! What a log adds to the history.
+
 // The files of a history.
 ghost use Rattle.std.specs.Prelude.{None, false};
 

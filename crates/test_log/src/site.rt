@@ -1,3 +1,5 @@
+//! The clock, the sink and the history of the tests.
+
 // A table whose steps are logged, with a clock of its own.
 use archive_history::HistoryFolder;
 use archive_log::ServerLog;

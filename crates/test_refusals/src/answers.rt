@@ -1,3 +1,5 @@
+//! What a run of a call returned.
+
 // What several of these tests compare: datagrams, collections, received files and what a keeper has.
 use archive_memory::{Kept, MemoryKeeper};
 use std::alloc::{Allocator, Global};

@@ -1,3 +1,5 @@
+//! The blocks of the files that are sent.
+
 use test_samples::whole_block;
 
 // A file in two blocks.

@@ -1,3 +1,5 @@
+//! Clients whose requests for memory are refused.
+
 // Fetching a collection and sending a file, with each allocation refused in turn.
 use crate::answers::{goes, has_bytes, is_out};
 use archive_client::{Cause, Get, Put, State};

@@ -1,3 +1,5 @@
+//! Collections whose requests for memory are refused.
+
 // Merging files into a collection and loading them, and making copies and snapshots of collections.
 use crate::answers::has_text;
 use refusing::{Complaint, Outcome, Refusing, refuse_each};

@@ -1,3 +1,5 @@
+//! Gets at a table whose requests for memory are refused.
+
 // A download from the server's table does not allocate after its first block, nor to open if another one has its text.
 use crate::answers::goes;
 use crate::blocks::Blocks;

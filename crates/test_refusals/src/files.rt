@@ -1,3 +1,5 @@
+//! Files that are read, shown and written without memory.
+
 // Reading and listing a solution file.
 ghost use Rattle.std.specs.Prelude.{ℕ, ◌+◌, length};
 ghost use Rattle.tws_reader.specs.Reader.{HasRoomFor, HasAtMost};

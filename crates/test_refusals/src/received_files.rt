@@ -1,3 +1,5 @@
+//! Received files whose requests for memory are refused.
+
 // Receiving a file and copying it, with each allocation refused in turn.
 ghost use Rattle.std.specs.Prelude.{◌≤◌, length};
 

@@ -1,3 +1,5 @@
+//! Replays whose requests for memory are refused.
+
 // A replay of a put, with each allocation refused in turn.
 use crate::answers::keeps_file;
 use archive_memory::MemoryKeeper;

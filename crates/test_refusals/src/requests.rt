@@ -1,3 +1,5 @@
+//! Requests at a table whose requests for memory are refused.
+
 // Requests to the server's table while other transfers are live, with each allocation refused in turn.
 use crate::table_steps::{Asked, ask, repeats};
 use crate::tables::{Deed, refuse_each_of};

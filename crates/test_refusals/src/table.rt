@@ -1,9 +1,11 @@
+//! A table that takes a file without memory.
+
 // The server's table: the block that completes a file, a keeper, and a start, with each allocation refused in turn.
 use crate::answers::{goes, has_bytes, has_text, keeps_file, was_kept};
 use crate::table_steps::{Asked, REQUEST, ask, is_let_go, open, takes_block};
 use crate::tables::{Deed, refuse_each_of};
-use archive_memory::{Kept, MemoryKeeper};
 use archive_keepers::NoKeeper;
+use archive_memory::{Kept, MemoryKeeper};
 use archive_table::{KeepFault, Keeper, LoadFault, Step, Table, Taken};
 use refusing::{Complaint, Outcome, Refusing, refuse_each};
 use std::alloc::{AllocError, Allocator, Global};

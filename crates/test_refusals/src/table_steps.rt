@@ -1,3 +1,5 @@
+//! The steps of a table that the tests ask for.
+
 // Steps of the server's table, and what they do.
 use crate::answers::goes;
 use archive_keepers::NoKeeper;

@@ -1,3 +1,5 @@
+//! Listings whose requests for memory are refused.
+
 // A table, and what a test does with it. One function makes the table, since each that owns one takes long to prove.
 use crate::blocks::Blocks;
 use crate::downloads::{downloads, shares};

@@ -1,3 +1,5 @@
+//! Puts at a table whose requests for memory are refused.
+
 // An upload of two blocks to the server's table: repeated blocks and time-outs do not allocate.
 use crate::blocks::Blocks;
 use crate::table_steps::{open, repeats, takes_block, wait};

@@ -1,3 +1,5 @@
+//! Datagrams that several tests send.
+
 /// Requests to write a file and to read each collection.
 pub const WRQ: &[u8; 19] = b"\0\x02upload.tws\0octet\0";
 

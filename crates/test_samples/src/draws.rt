@@ -1,3 +1,5 @@
+//! Numbers that are drawn, the same in each run.
+
 /// Pseudo-random numbers from a linear congruential generator with a fixed seed.
 #[derive(Drop)]
 pub struct Draws {

@@ -1,3 +1,5 @@
+//! Endpoints of the server and its peers.
+
 use tftp_packet::Endpoint;
 
 /// The server's request port.

@@ -1,3 +1,5 @@
+//! Files that several tests send.
+
 use std::alloc::{AllocError, Allocator};
 
 /// Files without a solution, one of each ruleset.

@@ -1,3 +1,5 @@
+//! A table and its keeper, and what a step is to do.
+
 // A table with request port 6969, and what its calls must return.
 use archive_memory::MemoryKeeper;
 use archive_table::{Keeper, LoadFault, Step, Table};

@@ -1,3 +1,5 @@
+//! Draws datagrams and files.
+
 // The inputs of a server in a drawn run.
 use crate::archive::REQUEST;
 use crate::plain::{End, Plain};

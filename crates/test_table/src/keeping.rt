@@ -1,3 +1,5 @@
+//! What a table gives to its keeper.
+
 // Collections that are kept, or not, and loaded again by a server that starts.
 use crate::archive::{
     Archive, Input, Left, NOTHING, Row, Then, client, has_texts, is_live, other_of,

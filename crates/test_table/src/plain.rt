@@ -1,3 +1,5 @@
+//! A plain server to compare with.
+
 // A server as plain lists, slow and simple, written from the tables of docs/FORMATS.md.
 use crate::plain_file::{Solution, copy, improve, join, read, text};
 use crate::plain_packet::{Packet, ack, data, parse};

@@ -1,3 +1,5 @@
+//! How the plain server reads files.
+
 // Files and collections as plain lists, written from the tables of docs/FORMATS.md.
 use std::alloc::{AllocError, Global};
 use tws_file::Ruleset;

@@ -1,3 +1,5 @@
+//! How the plain server reads packets.
+
 // The packets of the plain server.
 use crate::plain_file::block_of;
 use std::alloc::{AllocError, Global};

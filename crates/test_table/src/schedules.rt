@@ -1,3 +1,5 @@
+//! Drawn schedules, at both servers.
+
 // A thousand runs of the server, each of eighty inputs, every fiftieth of two hundred, that may fit or not, compared
 // step by step with the plain server: what is sent, opened, taken and closed, what the keeper is given, which ports are
 // live, and the text of both collections. Now and then the server starts again with what its keeper has: no port is

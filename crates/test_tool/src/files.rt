@@ -1,3 +1,5 @@
+//! The commands for files at a writer with little room.
+
 // The commands on files over readers and writers that fail.
 use crate::streams::*;
 use std::io;

@@ -1,3 +1,5 @@
+//! Puts of inputs that are too long or fail.
+
 // Puts of inputs that fail, or do not end.
 use crate::streams::*;
 use archive_memory::MemoryWire;

@@ -1,3 +1,5 @@
+//! Inputs and outputs that fail.
+
 // Inputs for the tests, and what is said of one that failed.
 use std::io;
 use std::io::Read;

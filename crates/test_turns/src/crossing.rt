@@ -1,3 +1,5 @@
+//! Carries datagrams between wires in memory.
+
 // A server and clients in one run of turns, each at a wire in memory: a datagram that one wire has sent arrives at
 // another when the test says so, also more than once.
 use crate::wires::*;

@@ -1,3 +1,5 @@
+//! Keepers that fail while a server runs.
+
 // Servers with a keeper, over wires in memory: a put that is not kept, one that is, and a start with what was kept.
 use crate::wires::*;
 use archive_memory::{MemoryKeeper, MemoryWire};

@@ -1,3 +1,5 @@
+//! Observers of a server.
+
 // What an observer is notified of: each step, its sender, and what it made, after the calls of the wire for it.
 use crate::wires::*;
 use archive_keepers::NoKeeper;

@@ -1,3 +1,5 @@
+//! A server's rounds by the clock.
+
 // Rounds of a server over wires in memory whose clock the test sets.
 use crate::wires::*;
 use archive_keepers::NoKeeper;

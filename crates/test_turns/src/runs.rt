@@ -1,3 +1,5 @@
+//! Runs of clients with a server.
+
 // Runs of clients over wires in memory.
 ghost use Rattle.std.specs.Prelude.{◌≤◌};
 

@@ -1,3 +1,5 @@
+//! A server's turns, by hand.
+
 // The server that counts turns, over wires in memory.
 use crate::wires::*;
 use archive_keepers::NoKeeper;

@@ -1,3 +1,5 @@
+//! Clients and servers that wait.
+
 // Clients that wait by the clock, over wires in memory.
 use crate::wires::*;
 use archive_client::Cause;

@@ -1,3 +1,5 @@
+//! Wires in memory whose calls fail.
+
 // Wires in memory for the tests, the datagrams of a put and a get by hand, RFC 1350, and tests of a log's entries.
 use archive_memory::{Entry, Kept, MemoryKeeper, MemoryWire};
 use archive_runs::PutRun;

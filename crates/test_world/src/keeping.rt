@@ -1,3 +1,5 @@
+//! Runs in which a keep fails.
+
 // What the keeper of a replay is given, and keepers that fail.
 use crate::scene::{Act, NO_CALL, NOTHING, Wanted, failing, fault_by, other_after};
 use archive_memory::MemoryKeeper;

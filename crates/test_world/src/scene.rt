@@ -1,3 +1,5 @@
+//! Builds the events of a run.
+
 // Lists of events in abbreviated form, with what they leave and what their keeper is given.
 use archive_memory::{Kept, MemoryKeeper};
 use archive_world::{

@@ -1,3 +1,5 @@
+//! Why a block was not taken.
+
 ghost use Rattle.std.specs.Prelude.{◌≡◌};
 ghost use Rattle.tftp_ends.specs.declared.recv_fault.RecvFault.TheVariants.{Memory};
 ghost use Rattle.tftp_ends.specs.Ends.{refusal_of};

@@ -1,3 +1,5 @@
+//! The states of a receiver.
+
 /// The state of a receiver.
 #[derive(Clone, Copy, Debug, PartialEq, Eq)]
 pub enum RecvState {

@@ -1,3 +1,5 @@
+//! The states of a sender.
+
 /// The state of a sender.
 #[derive(Clone, Copy, Debug, PartialEq, Eq)]
 pub enum SendState {

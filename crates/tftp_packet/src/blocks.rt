@@ -1,3 +1,5 @@
+//! Files in blocks.
+
 ghost use Rattle.std.specs.Prelude.{◌≡◌, ℕ, ◌≤◌, List, length, take};
 ghost use Rattle.tftp_packet.specs.Blocks.{block_of, block_count};
 

@@ -1,3 +1,5 @@
+//! Why a client's transfer failed.
+
 use thiserror::Error;
 
 /// Why a transfer failed.

@@ -1,3 +1,5 @@
+//! The bytes of a datagram.
+
 ghost use Rattle.std.specs.Prelude.{◌≡◌, ◌+◌, ◌≤◌, [], ◌∷◌, ◌++◌, length, take, ⊤};
 ghost use Rattle.byteorder.specs.Endian.{big_bytes};
 ghost use Rattle.tftp_packet.specs.Blocks.{block_of, block_count};

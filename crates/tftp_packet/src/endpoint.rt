@@ -1,3 +1,5 @@
+//! Hosts and ports.
+
 /// The source or target of a datagram: an IPv4 address and a UDP port, which RFC 1350 section 4 calls a transfer
 /// identifier.
 #[derive(Clone, Copy, Debug, PartialEq, Eq, PartialOrd, Ord, Hash)]

@@ -1,3 +1,5 @@
+//! The mode of a request.
+
 ghost use Rattle.std.specs.Prelude.{◌≡◌, IsTrue, ◌↔◌};
 ghost use Rattle.tftp_packet.specs.Packet.{IsOctet, is_octet as octet_mode};
 

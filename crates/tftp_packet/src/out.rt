@@ -1,3 +1,5 @@
+//! A datagram to be sent.
+
 ghost use Rattle.std.specs.Prelude.{◌≡◌, ⊤};
 
 use crate::dgram::Dgram;

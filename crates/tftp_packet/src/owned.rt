@@ -1,3 +1,5 @@
+//! A file in a vector.
+
 ghost use Rattle.std.specs.Prelude.{◌≡◌};
 
 use crate::blocks::Blocks;

@@ -1,3 +1,5 @@
+//! The five packets.
+
 /// A TFTP packet (RFC 1350 section 5). Its texts and its body are slices of the datagram that it was read from, without
 /// the zero bytes that end the texts. The texts are bytes of any value but zero, and the body is bytes of any value: no
 /// text encoding is assumed.

@@ -1,3 +1,5 @@
+//! Why bytes are no packet.
+
 use thiserror::Error;
 
 /// Why bytes are not a packet. The checks run in this order; the first that fails is reported. A fault is displayed as

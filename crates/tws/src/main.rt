@@ -8,7 +8,10 @@ use tws_tool::{WithLastError, report_arguments, report_streams, run_words};
 
 fn run(rt: &HostRuntime) -> io::Result<u8> {
     let words: Vec<String> = env::args(rt)?.collect(rt.alloc())?;
-    let (mut input, mut out) = (WithLastError::new(rt.stdin()), WithLastError::new(rt.stdout()));
+    let (mut input, mut out) = (
+        WithLastError::new(rt.stdin()),
+        WithLastError::new(rt.stdout()),
+    );
     let mut errors = rt.stderr();
     let terminal = if errors.is_terminal() {
         Some(rt.stderr())

@@ -1,3 +1,5 @@
+//! Bodies of solutions, which collections and snapshots share.
+
 ghost use Rattle.std.specs.Prelude.{◌≡◌, ◌<◌, ◌≤◌, ◌^◌, length, IfOk};
 ghost use Rattle.std.specs.Ordering.{is_lt};
 ghost use Rattle.tws_best.specs.Rank.{rank_of, rank_cmp};

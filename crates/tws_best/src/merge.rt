@@ -1,3 +1,5 @@
+//! Merges part after part, and their undo.
+
 ghost use Rattle.std.specs.Prelude.{◌≡◌, ◌≢◌, ◌↔◌, ◌++◌, Contains, OnOk, OnErr, MatchBool};
 ghost use Rattle.std.specs.List.{AllByRecursion};
 ghost use Rattle.tws_file.specs.Text.{IsRecord};

@@ -1,3 +1,5 @@
+//! The text of a collection at one moment.
+
 ghost use Rattle.std.specs.Prelude.{◌≡◌, ◌+◌, ◌<◌, ◌≤◌, ◌^◌, [], length, take, slice_index_or, nat_le, true, false, IfOk};
 ghost use Rattle.std.specs.List.Sorted.{IsNonDecreasing, IsPartitionPoint};
 ghost use Rattle.std.specs.List.{flat_map};

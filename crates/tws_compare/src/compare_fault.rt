@@ -1,3 +1,5 @@
+//! Why two files were not compared.
+
 ghost use Rattle.std.specs.Prelude.{◌≡◌};
 ghost use Rattle.tws_compare.specs.declared.compare_fault.CompareFault.TheVariants.{Memory};
 

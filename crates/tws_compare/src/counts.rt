@@ -1,3 +1,5 @@
+//! The counts of a comparison.
+
 ghost use Rattle.std.specs.Prelude.{◌≡◌, count_by};
 ghost use Rattle.tws_compare.specs.Counts.{counts_of};
 ghost use Rattle.tws_compare.specs.Standing.{is_only_mine, is_only_theirs, is_mine_better, is_theirs_better, is_equal};

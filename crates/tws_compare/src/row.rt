@@ -1,3 +1,5 @@
+//! A row of a comparison.
+
 use crate::standing::Standing;
 use std::fmt;
 use tws_file::Key;

@@ -1,3 +1,5 @@
+//! The best solutions of both files, by level.
+
 ghost use Rattle.std.specs.Prelude.{◌≡◌, ◌≤◌, length, IfOk};
 ghost use Rattle.tws_best.specs.Rank.{rank_of, rank_cmp, ticks_of};
 ghost use Rattle.tws_file.specs.Record.{record_of};

@@ -1,3 +1,5 @@
+//! How two solutions of a level compare.
+
 use std::fmt;
 
 /// How the best solutions of two files, mine and theirs, compare at one level.

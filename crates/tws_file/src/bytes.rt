@@ -1,3 +1,5 @@
+//! Bytes that are kept as they are.
+
 ghost use Rattle.std.specs.Prelude.{◌≡◌, ℕ, List, [], length, IsTrue, ◌↔◌};
 ghost use Rattle.byte_output.specs.Bytes.{IsBytes};
 

@@ -1,3 +1,5 @@
+//! Why bytes are no solution file.
+
 ghost use Rattle.std.specs.Prelude.{◌≡◌};
 ghost use Rattle.tws_file.specs.declared.file_fault.FileFault.TheVariants.{Memory};
 

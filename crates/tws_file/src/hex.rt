@@ -1,3 +1,5 @@
+//! Bytes as hexadecimal digits.
+
 ghost use Rattle.std.specs.Prelude.{Some};
 ghost use Rattle.tws_file.specs.Words.{hex};
 

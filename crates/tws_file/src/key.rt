@@ -1,3 +1,5 @@
+//! What identifies a level.
+
 ghost use Rattle.std.specs.Prelude.{◌≡◌, ◌↔◌, IsTrue};
 
 use crate::password::Password;

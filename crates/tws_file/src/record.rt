@@ -1,3 +1,5 @@
+//! The records of a solution file.
+
 ghost use Rattle.std.specs.Prelude.{◌≡◌, ◌++◌};
 ghost use Rattle.tws_file.specs.Record.{record_of};
 ghost use Rattle.tws_file.specs.Text.{IsRecord, record_text};

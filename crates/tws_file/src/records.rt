@@ -1,3 +1,5 @@
+//! The list of a file's records.
+
 ghost use Rattle.std.specs.Prelude.{◌≡◌, [], ◌++◌, length, take, IsTrue, ◌↔◌, OnOk, OnErr};
 ghost use Rattle.tws_file.specs.Record.{records_of};
 

@@ -1,3 +1,5 @@
+//! Solution files.
+
 use crate::bytes::Bytes;
 use crate::records::Records;
 use crate::ruleset::Ruleset;

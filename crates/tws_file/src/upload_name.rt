@@ -1,3 +1,5 @@
+//! The name under which a client sends a file.
+
 ghost use Rattle.std.specs.Prelude.{◌≡◌};
 ghost use Rattle.tws_file.specs.Names.{upload_name};
 

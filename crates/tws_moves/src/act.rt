@@ -1,3 +1,5 @@
+//! What a player does at a tick.
+
 ghost use Rattle.std.specs.Prelude.{◌≡◌};
 ghost use Rattle.tws_moves.specs.Steps.{ticks_limit};
 

@@ -1,3 +1,5 @@
+//! The layouts of moves in bytes.
+
 ghost use Rattle.std.specs.Prelude.{◌≡◌, ◌≤◌, ℕ, length};
 ghost use Rattle.tws_moves.specs.Spelling.{layout_of, piece_length, layout_waits};
 ghost use Rattle.tws_moves.specs.Steps.{least_value};

@@ -1,3 +1,5 @@
+//! A move, and how moves are read.
+
 ghost use Rattle.std.specs.Prelude.{◌↔◌, IsTrue};
 ghost use Rattle.tws_moves.specs.Move.{IsTimed};
 

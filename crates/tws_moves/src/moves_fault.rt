@@ -1,3 +1,5 @@
+//! Why bytes are no moves.
+
 ghost use Rattle.std.specs.Prelude.{◌≡◌};
 ghost use Rattle.tws_moves.specs.declared.moves_fault.MovesFault.TheVariants.{Memory};
 

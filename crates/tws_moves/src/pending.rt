@@ -1,3 +1,5 @@
+//! Steps that wait for others to share their byte.
+
 ghost use Rattle.std.specs.Prelude.{◌≡◌, ◌<◌, [], ◌∷◌, ◌++◌, IfOk, OnOk};
 ghost use Rattle.tws_moves.specs.Shortest.{waits_bytes};
 ghost use Rattle.tws_moves.specs.Steps.{IsPending, Packs, pending_waits, plain_step};

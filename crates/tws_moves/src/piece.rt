@@ -1,3 +1,5 @@
+//! A piece of bytes to write.
+
 ghost use Rattle.std.specs.Prelude.{◌≡◌, ℕ, ◌+◌, ◌*◌, ◌<◌, ◌≤◌, ◌^◌, ◌&&◌, ◌++◌, drop, length, slice_index_or, OnOk, IfSome, IfNone};
 ghost use Rattle.tws_moves.specs.Bytes.{little_bytes};
 ghost use Rattle.tws_moves.specs.Move.{Wait as PlainWait, IsTimed, waits_from};

@@ -1,3 +1,5 @@
+//! Why moves have no bytes.
+
 ghost use Rattle.std.specs.Prelude.{◌≡◌};
 ghost use Rattle.tws_moves.specs.declared.spell_fault.SpellFault.TheVariants.{Memory};
 

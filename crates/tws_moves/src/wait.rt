@@ -1,3 +1,5 @@
+//! An act and the time before it.
+
 ghost use Rattle.std.specs.Prelude.{◌≡◌, ℕ, ◌+◌, ◌<◌, ◌≤◌, ◌^◌, [], ◌∷◌, length, slice_index_or, IfSome, IfNone};
 ghost use Rattle.tws_moves.specs.declared.layout.Layout.TheVariants as layouts;
 ghost use Rattle.tws_moves.specs.Bytes.{bits};

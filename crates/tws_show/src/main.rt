@@ -6,11 +6,14 @@ use command_line::{report_arguments, report_streams};
 use show_commands::run_show_words;
 use std::process::ExitCode;
 use std::{env, io};
-use system_files::{WithLastError, System};
+use system_files::{System, WithLastError};
 
 fn run(rt: &HostRuntime) -> io::Result<u8> {
     let words: Vec<String> = env::args(rt)?.collect(rt.alloc())?;
-    let (mut input, mut out) = (WithLastError::new(rt.stdin()), WithLastError::new(rt.stdout()));
+    let (mut input, mut out) = (
+        WithLastError::new(rt.stdin()),
+        WithLastError::new(rt.stdout()),
+    );
     let mut errors = rt.stderr();
     let status = run_show_words(
         &System(*rt),

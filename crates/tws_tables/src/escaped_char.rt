@@ -1,3 +1,5 @@
+//! Characters as text in HTML.
+
 ghost use Rattle.std.specs.Prelude.{Some};
 ghost use Rattle.tws_tables.specs.Escaping.{escaped_char};
 

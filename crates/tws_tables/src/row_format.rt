@@ -1,3 +1,5 @@
+//! The forms of a table's row.
+
 ghost use Rattle.std.specs.Prelude.{◌≡◌, ◌++◌, string_bytes, OnOk};
 ghost use Rattle.tws_tables.specs.Steps.{row_of};
 

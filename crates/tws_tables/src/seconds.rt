@@ -1,3 +1,5 @@
+//! Ticks as seconds.
+
 ghost use Rattle.std.specs.Prelude.{Some};
 ghost use Rattle.tws_tables.specs.Solved.{seconds_text};
 
