@@ -23,7 +23,7 @@ use Rattle.archive_theorem.specs.Durable.{HasNoWorse, AreNoWorse, HoldsFile, Hol
 use Rattle.archive_model.proofs.Places.{Has, IsPrefix-same, IsPrefix-on, Has-contains, Has-from_contains, Has-prefix}
 use Rattle.archive_theorem.proofs.Owning.{one_operation}
 use Rattle.archive_theorem.proofs.Invariant.{AreBest, Holds, first-holds}
-use Rattle.archive_theorem.proofs.Collecting.{best-collected}
+use Rattle.tws_best.proofs.Collections.{best-collected}
 use Rattle.archive_theorem.proofs.Remaining.{step-takes}
 use Rattle.archive_theorem.proofs.Happening.{merged-first, step-holds, run_from-holds, last-holds}
 use Rattle.archive_theorem.proofs.Loading.{loads-the_same, loads-as}
