@@ -399,7 +399,7 @@ module _ (o : Origin) (host : ℕ) (away : host ≢ o.home.host) where
               let ports : ends.last.port ≡ r.port = runs-port (IsRunRound asking) (paced_members asking) (round-move asking) has_ended all ∙ port in
               let At : ℕ → Type 0 = λ p. lookup (is_same (record { host = host; port = p })) last.archive.clients ≡ Some ends.last.client in (
                 get-written rules written now r ends.last.client end len
-                (subst (λ (x : Result (ℕ × Run) RunFault). WritesGot ends.last.client (len_of x) written now) ok ends.got),
+                    (subst (λ (x : Result (ℕ × Run) RunFault). WritesGot ends.last.client (len_of x) written now) ok ends.got),
                 subst (λ (s : Run). ClientAt o host s last) (sym is) (end.there, subst At (sym ports) end.client),
               ),
         )

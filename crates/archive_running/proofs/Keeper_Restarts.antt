@@ -14,7 +14,7 @@ use Rattle.archive_server.specs.declared.mode.Mode.{Mode}
 use Rattle.archive_server.specs.declared.next.Next.{Next}
 use Rattle.archive_server.specs.declared.next.Next.TheVariants as next
 use Rattle.archive_server.specs.declared.timer.Timer.{Timer}
-use Rattle.archive_model.specs.Restarts.{LoadsAs, HaveOwnRuleset}
+use Rattle.archive_model.specs.Restarts.{AreAlike, LoadsAs, HaveOwnRuleset}
 use Rattle.archive_theorem.proofs.Loading.{step-loads_as, loads-as}
 use Rattle.archive_theorem.proofs.Remaining.{decoded_leaves, timeout_leaves, found_takes}
 use Rattle.archive_running.specs.Archive.{LoadsKept}
@@ -159,6 +159,14 @@ both_are a b lynx ms =
     let whole : make a.lynx a.ms ≡ make b.lynx b.ms = cc in
     whole
 
+-- a keeper that has the same is loaded as the same
+pub alike-kept : (before now : List Keeping) (maps : Maps) → AreAlike before now → LoadsAs before maps → LoadsAs now maps
+alike-kept before now maps alike loads =
+    record {
+      lynx = subst (λ (text : Option (List ℕ)). IsLoaded Lynx text maps.lynx) (sym (alike Lynx)) loads.lynx;
+      ms = subst (λ (text : Option (List ℕ)). IsLoaded Ms text maps.ms) (sym (alike Ms)) loads.ms;
+    }
+
 -- what is loaded is what the server had, and the keeper has it
 pub restart-same : (before now : Option (List Keeping)) (old new : Maps) → LoadsKept before now old new → KeptIn before old →
     (new ≡ old) × KeptIn now old
@@ -166,9 +174,6 @@ restart-same None now old new loads has =
     (loads.1, subst (λ (o : Option (List Keeping)). KeptIn o old) (sym loads.0) tt)
 restart-same (Some log) None old new loads has = absurd loads
 restart-same (Some log) (Some reported) old new loads has =
-    let kept : LoadsAs reported old = record {
-      lynx = subst (λ (text : Option (List ℕ)). IsLoaded Lynx text old.lynx) (sym (loads.0 Lynx)) has.lynx;
-      ms = subst (λ (text : Option (List ℕ)). IsLoaded Ms text old.ms) (sym (loads.0 Ms)) has.ms;
-    } in
+    let kept = alike-kept log reported old loads.0 has in
     let same = loads-as reported old kept new.lynx new.ms loads.1 loads.2 in
     (both_are new old same.0 same.1, kept)

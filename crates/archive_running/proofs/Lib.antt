@@ -9,3 +9,4 @@ pub mod Run_Moves
 pub mod Sample_Turns
 pub mod Call_Moves
 pub mod Sample_Rounds
+pub mod Start_Chain

@@ -288,6 +288,10 @@ module _ (o : Origin) where
     pub run-merged : AllMerged (trace_steps r.members first) first
     run-merged = steps_merged r.archive r.members (reached r.reaches).makes
 
+    -- a keeper with a log has what is loaded as the server's collections
+    pub run-kept : KeptIn r.archive.kept r.archive.server.maps
+    run-kept = (reached r.reaches).kept
+
     -- its members are a trace
     pub run-trace : TraceFrom o
     run-trace =

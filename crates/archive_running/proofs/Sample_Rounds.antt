@@ -1,5 +1,5 @@
 -- A run of the archive in rounds: a put of a file with a solution, a restart, and a get of what was taken.
-use Rattle.std.proofs.Common.{◌≡◌, ◌≢◌, ℕ, true, List, [], ◌∷◌, ◌++◌, length, Contains, Option, None, Some, Ok, is_some, refl, ap, sym, ◌∙◌, subst, inl, inr, arith}
+use Rattle.std.proofs.Common.{◌≡◌, ◌≢◌, ℕ, true, List, [], ◌∷◌, ◌++◌, length, Option, None, Some, Ok, is_some, refl, ap, inl, inr, arith}
 use Rattle.tftp_packet.specs.declared.endpoint.Endpoint.{Endpoint}
 use Rattle.tftp_packet.specs.Packet.{encode, ack, data_block}
 use Rattle.tftp_packet.specs.Decode.{decode_bytes}

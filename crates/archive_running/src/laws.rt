@@ -13,20 +13,24 @@ ghost use Rattle.archive_wire.specs.Wire.{Entry};
 ghost use Rattle.archive_server.specs.Turn.{Server, IsTurn, IsRound, MakesTurns, MakesRounds};
 ghost use Rattle.archive_runs.specs.Run.{Run, put_result, WritesGot, RunsPut, RunsGet};
 ghost use Rattle.archive_runs.specs.Rounds.{dallying, MakesDally, PutsInRounds, GetsInRounds};
-ghost use Rattle.archive_model.specs.World.{Origin, empty_origin, first_world, AllMayHappen, AllMerged};
-ghost use Rattle.archive_theorem.specs.Headline.{IsOwn, HasOwnPorts, ClientsHeadline, Headline, SentOnce};
+ghost use Rattle.archive_model.specs.World.{Origin, empty_origin, first_world, IsPrefix, AllMayHappen, AllMerged};
+ghost use Rattle.archive_model.specs.Restarts.{AreAlike, LoadsAs};
+ghost use Rattle.archive_theorem.specs.Headline.{IsOwn, HasOwnPorts, ClientsHeadline, Headline, SentOnce, files_of};
+ghost use Rattle.archive_theorem.specs.Durable.{HoldsPromised};
 ghost use Rattle.archive_theorem.specs.Traces.{trace_steps};
 ghost use Rattle.archive_theorem.specs.Samples.{sample_file};
 ghost use Rattle.archive_running.specs.Archive.{ArchiveRun, world_of, Mirrors, WritesFinished, CanReach, CanRestart};
+ghost use Rattle.archive_running.specs.Starts.{StartsFrom, Follows, FetchesEarlier};
 ghost use Rattle.archive_running.specs.Calls.{Moment, IsReached, ServesAt, world_at, ManyHappen, after_turn, after_round, DalliesHappen, ClientAt, PutHappens, GetHappens, PutInRoundsHappens, GetInRoundsHappens, PutWasTaken, GetWasWritten, PutCanHappen};
 
-/// Every run of a server and its clients, made of turns and rounds as archive_server and archive_runs define them, in which
-/// whatever is received was sent before or is a stranger's, is a trace whose events may all happen; the world after it mirrors
-/// the archive. The server may be on any host and take requests at any port, and it may have collections at first, which are
-/// the best over some texts, such as those of its folder: any two readable texts of a keeper. So the headline holds for it, for
-/// each client whose ports are its own: the file of a put that returned Ok was taken exactly once, and what a get that returned
-/// Ok has written is the collection at one of its own requests. Openings of the world are the requests that opened a transfer,
-/// and strays are datagrams that arrived although no wire was given them to send.
+/// Every run of a server and its clients, made of turns and rounds as archive_server and archive_runs define them, in
+/// which whatever is received was sent before or is a stranger's, is a trace whose events may all happen; the world
+/// after it mirrors the archive. The server may be on any host and take requests at any port, and it may have
+/// collections at first, which are the best over some texts, such as those of its folder: any two readable texts of a
+/// keeper. So the headline holds for it, for each client whose ports are its own: the file of a put that returned Ok
+/// was taken exactly once, and what a get that returned Ok has written is the collection at one of its own requests.
+/// Openings of the world are the requests that opened a transfer, and strays are datagrams that arrived although no
+/// wire was given them to send.
 pub fn running_law()
     ensures mirrors { (o : Origin) (r : ArchiveRun o) → Mirrors r.archive (world_of r) }
     ensures happens { (o : Origin) (r : ArchiveRun o) → AllMayHappen (trace_steps r.members (first_world o)) (first_world o) }
@@ -47,11 +51,11 @@ pub fn running_law()
 {}
 
 /// Whole calls are such moves. The turns or rounds that the contract of `serve_turns` or `serve_rounds` lists lead from
-/// one moment of the archive to another, if each receives only what was sent before it or is a stranger's, whatever others
-/// do in between; and so do the start and the turns of `run_put` and `run_get`, the start and the rounds of `put_in_rounds`
-/// and `get_in_rounds`, and the rounds of a get that dallies. So where a put returned Ok, its file was taken exactly once,
-/// and what a get that returned Ok has written is the collection at one of its own requests, if the ports of its endpoint
-/// are its own.
+/// one moment of the archive to another, if each receives only what was sent before it or is a stranger's, whatever
+/// others do in between; and so do the start and the turns of `run_put` and `run_get`, the start and the rounds of
+/// `put_in_rounds` and `get_in_rounds`, and the rounds of a get that dallies. So where a put returned Ok, its file was
+/// taken exactly once, and what a get that returned Ok has written is the collection at one of its own requests, if the
+/// ports of its endpoint are its own.
 pub fn calls_law()
     ensures turns { (o : Origin) (turns : ℕ) (old new : Server) (taken : ℕ) (before after : Option (List Entry)) (kept now : Option (List Keeping))
         (call : MakesTurns turns old new taken before after kept now) (first last : Moment) → ManyHappen IsTurn after_turn call.served first last →
@@ -84,4 +88,16 @@ pub fn calls_law()
         ClientAt o host old first → ClientAt o host new last }
     // A put of a file with a solution can happen so.
     ensures puts { PutCanHappen (sample_file 100) }
+{}
+
+/// A chain of starts. Where a run has ended, a server on any host, at any port, may start from what its keeper has: it
+/// loads the collections that the run's server had. Its clients and its network are new. What the run has promised then
+/// holds in the new run, and in all that follow: the collections hold all that was taken, sent and fetched in it, as
+/// after one run; and a get has fetched the best over files that begin with all those of the runs before.
+pub fn starts_law()
+    ensures begins { (o : Origin) (r : ArchiveRun o) (home : Endpoint) (log reported : List Keeping) → r.archive.kept ≡ Some log → AreAlike log reported →
+        (next : Origin) × (next.home ≡ home) × StartsFrom r next × LoadsAs reported next.maps }
+    ensures files { (o p : Origin) (r : ArchiveRun o) (s : ArchiveRun p) → Follows o r p s → IsPrefix (files_of r.archive.taken) (files_of s.archive.taken) }
+    ensures promised { (o p : Origin) (r : ArchiveRun o) (s : ArchiveRun p) → Follows o r p s → HoldsPromised (world_of r) s.archive.server.maps }
+    ensures fetched { (o p : Origin) (r : ArchiveRun o) (s : ArchiveRun p) → Follows o r p s → FetchesEarlier r s }
 {}
