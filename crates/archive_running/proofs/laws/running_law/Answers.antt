@@ -1,6 +1,6 @@
-use Rattle.archive_running.proofs.Running.{run-mirrors, run-happens, run-merged, run-clients, run-headline, run-sent, run-fetched}
-use Rattle.archive_running.proofs.Sampling.{sends, fetches}
-use Rattle.archive_running.proofs.RoundSampling.{serves-on}
+use Rattle.archive_running.proofs.Run_Moves.{run-mirrors, run-happens, run-merged, run-clients, run-headline, run-sent, run-fetched}
+use Rattle.archive_running.proofs.Sample_Turns.{sends, fetches}
+use Rattle.archive_running.proofs.Sample_Rounds.{serves-on}
 use Rattle.archive_running.proofs.laws.running_law.Goals as goal
 
 pub returns-clause-mirrors : goal.returns-clause-mirrors
@@ -22,8 +22,7 @@ pub returns-clause-sent : goal.returns-clause-sent
 returns-clause-sent c = run-sent
 
 pub returns-clause-fetched : goal.returns-clause-fetched
-returns-clause-fetched c = λ texts maps over a members reaches e own c len written now is writes.
-    run-fetched texts maps over a members reaches e own c len written now is writes
+returns-clause-fetched c = λ o r e own k len written now is writes. run-fetched o r e own k len written now is writes
 
 pub returns-clause-sends : goal.returns-clause-sends
 returns-clause-sends c = sends

@@ -13,19 +13,20 @@ use Rattle.archive_table.specs.Table as table
 use Rattle.archive_client.specs.declared.state.State.TheVariants as state
 use Rattle.archive_client.specs.Client.{Operation, Client, request_out, client_start, state_of, phase_file, file_or, file_or_client}
 use Rattle.archive_client.specs.Client as client
-use Rattle.archive_model.specs.World.{Datagram, Begun, Opening, Got, World, server_endpoint, has_begun, datagram_of, net_with, taken_with, sent_with, got_with, newly_sent, newly_got, after_client, begins, restarts}
+use Rattle.archive_model.specs.World.{Datagram, Begun, Opening, Got, World, has_begun, datagram_of, net_with, taken_with, sent_with, got_with, newly_sent, newly_got, after_client, begins, restarts}
 use Rattle.archive_theorem.specs.Traces.{named_in}
 use Rattle.archive_model.proofs.Places.{Has, Has-contains, Has-from_contains, Has-prefix, IsPrefix-push, Has-last, Has-push, either}
 use Rattle.archive_theorem.proofs.Keyed.{lookup-set}
 use Rattle.archive_model.proofs.Endpoints.{exact_endpoint}
 use Rattle.archive_theorem.proofs.ServerMoves.{served}
 use Rattle.archive_running.specs.Archive.{Archive, Mirrors, after_restart}
-use Rattle.archive_running.proofs.Ports.{IsApart}
-use Rattle.archive_running.proofs.Ended.{Ends}
+use Rattle.archive_running.proofs.Server_Ports.{IsApart}
+use Rattle.archive_running.proofs.Client_Ends.{Ends}
 
 -- what is promised, by places, with what it needs: that operations have clients, and that no transfer is at the request
 -- port
 pub record Shows (a : Archive) (w : World) : Type 0 where
+  pub home : w.home ≡ a.home
   pub server : w.server ≡ a.server
   pub clients : w.clients ≡ a.clients
   pub begun : w.begun ≡ a.begun
@@ -47,6 +48,7 @@ given_file (Some g) c f e = cc
 pub shows-mirrors : (a : Archive) (w : World) → Shows a w → Mirrors a w
 shows-mirrors a w h =
     record {
+      home = h.home;
       server = h.server;
       clients = h.clients;
       begun = h.begun;
@@ -70,6 +72,7 @@ pub shows-named : (position : Option ℕ) (d : Datagram) (a : Archive) (w : Worl
 shows-named (Some n) d a w h = h
 shows-named None d a w h =
     record {
+      home = h.home;
       server = h.server;
       clients = h.clients;
       begun = h.begun;
@@ -122,6 +125,7 @@ other_out host (Some out) old net strays others d has =
 abbrev pub with_answer : Table → Option Taken → List Datagram → Archive → Archive
 with_answer s took sent a =
     record {
+      home = a.home;
       server = s;
       clients = a.clients;
       begun = a.begun;
@@ -133,16 +137,19 @@ with_answer s took sent a =
 -- after a step of the server
 pub shows-served : (a : Archive) (w : World) → Shows a w → (x : table.TableAnswer) → IsApart x.server →
     (took : Option Taken) (opened : List Opening) →
-    Shows (with_answer x.server took (outs server_endpoint.host x.step.out) a)
-    (served (net_with server_endpoint.host w.net x.step.out) x.server (taken_with took w.taken) opened w)
+    Shows (with_answer x.server took (outs a.home.host x.step.out) a)
+    (served (net_with w.home.host w.net x.step.out) x.server (taken_with took w.taken) w.recovered opened w)
 shows-served a w h x apart took opened =
     record {
+      home = h.home;
       server = refl;
       clients = h.clients;
       begun = h.begun;
       taken = ap (taken_with took) h.taken;
-      net = has_out server_endpoint.host x.step.out a.net w.net h.net;
-      others = other_out server_endpoint.host x.step.out a.net w.net w.strays h.others;
+      net = λ d has. has_out w.home.host x.step.out a.net w.net h.net d (subst (λ (e : Endpoint). Has (a.net ++ outs e.host x.step.out) d) (sym h.home) has);
+      others = λ d has.
+          subst (λ (e : Endpoint). Has (a.net ++ outs e.host x.step.out) d ⊎ Has w.strays d) h.home
+          (other_out w.home.host x.step.out a.net w.net w.strays h.others d has);
       sent = h.sent;
       got = h.got;
       known = h.known;
@@ -154,6 +161,7 @@ pub shows-restart : (kept : Option (List Keeping)) (a : Archive) (w : World) →
 shows-restart kept a w h =
     let emptied : Table → Table = λ s. record { request = s.request; maps = s.maps; live = [] } in
     record {
+      home = h.home;
       server = ap emptied h.server;
       clients = h.clients;
       begun = h.begun;
@@ -172,6 +180,7 @@ shows-restart kept a w h =
 abbrev pub with_client : Endpoint → Client → List Datagram → Archive → Archive
 with_client e next sent a =
     record {
+      home = a.home;
       server = a.server;
       clients = set_value (is_same e) a.clients next;
       begun = a.begun;
@@ -251,6 +260,7 @@ module _ (a : Archive) (w : World) (h : Shows a w) (e : Endpoint) (c : Client) (
   pub shows-client : Shows (with_client e x.client (outs e.host x.out) a) (after_client e c x w)
   shows-client =
       record {
+        home = h.home;
         server = h.server;
         clients = ap (λ (cs : List (Endpoint × Client)). set_value (is_same e) cs x.client) h.clients;
         begun = h.begun;
@@ -291,12 +301,13 @@ first_or false c k old e new later = later e
 module _ (a : Archive) (w : World) (h : Shows a w) (e : Endpoint) (operation : Operation) where
   -- its client
   abbrev pub begun_client : Client
-  begun_client = client_start e.port server_endpoint operation
+  begun_client = client_start e.port a.home operation
 
   -- the archive after that
   abbrev pub with_begun : Archive
   with_begun =
       record {
+        home = a.home;
         server = a.server;
         clients = (e, begun_client) ∷ a.clients;
         begun = a.begun ++ record { client = e; operation = operation; taken = length a.taken } ∷ [];
@@ -305,18 +316,28 @@ module _ (a : Archive) (w : World) (h : Shows a w) (e : Endpoint) (operation : O
         kept = a.kept;
       }
 
+  -- the request of a client of a server there
+  abbrev asks : Endpoint → List Datagram
+  asks home = outs e.host (Some (request_out operation (client_start e.port home operation)))
+
   -- after a begin
   pub shows-begin : Shows with_begun (begins e operation w)
   shows-begin =
+      let started : Endpoint → List (Endpoint × Client) → List (Endpoint × Client) = λ home cs. (e, client_start e.port home operation) ∷ cs in
       record {
+        home = h.home;
         server = h.server;
-        clients = ap (λ (cs : List (Endpoint × Client)). (e, begun_client) ∷ cs) h.clients;
+        clients = ap (λ (cs : List (Endpoint × Client)). started w.home cs) h.clients ∙ ap (λ (home : Endpoint). started home a.clients) h.home;
         begun =
             ap (λ (l : List Begun). l ++ record { client = e; operation = operation; taken = length w.taken } ∷ []) h.begun
             ∙ ap (λ (ts : List Taken). a.begun ++ record { client = e; operation = operation; taken = length ts } ∷ []) h.taken;
         taken = h.taken;
-        net = has_out e.host (Some (request_out operation begun_client)) a.net w.net h.net;
-        others = other_out e.host (Some (request_out operation begun_client)) a.net w.net w.strays h.others;
+        net = λ d has.
+            has_out e.host (Some (request_out operation (client_start e.port w.home operation))) a.net w.net h.net d
+            (subst (λ (home : Endpoint). Has (a.net ++ asks home) d) (sym h.home) has);
+        others = λ d has.
+            subst (λ (home : Endpoint). Has (a.net ++ asks home) d ⊎ Has w.strays d) h.home
+            (other_out e.host (Some (request_out operation (client_start e.port w.home operation))) a.net w.net w.strays h.others d has);
         sent = λ f k found sent.
             first_or (is_same f e) begun_client k (lookup (is_same f) a.clients) found
             (λ new. let running : state.Running ≡ state.Sent = ap state_of new ∙ sent in absurd cc)

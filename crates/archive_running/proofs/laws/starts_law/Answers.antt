@@ -1,0 +1,14 @@
+use Rattle.archive_running.proofs.Start_Chain.{starts-from, follows-files, follows-promised, follows-fetches}
+use Rattle.archive_running.proofs.laws.starts_law.Goals as goal
+
+pub returns-clause-begins : goal.returns-clause-begins
+returns-clause-begins c = starts-from
+
+pub returns-clause-files : goal.returns-clause-files
+returns-clause-files c = λ o p r s follows. follows-files follows
+
+pub returns-clause-promised : goal.returns-clause-promised
+returns-clause-promised c = λ o p r s follows. follows-promised follows
+
+pub returns-clause-fetched : goal.returns-clause-fetched
+returns-clause-fetched c = λ o p r s follows. follows-fetches follows
