@@ -15,10 +15,12 @@ use Rattle.archive_mirrors.proofs.Standing.{run-good, copy-text}
 use Rattle.archive_mirrors.proofs.Having.{some_better, nothing_itself}
 
 -- as good in both directions
-both_ways : (rules : Ruleset) (xs ys : List (List ℕ)) (c : Collected) → AsGood rules xs ys → IsCollectionOf rules xs c ↔ IsCollectionOf rules ys c
+both_ways : (rules : Ruleset) (xs ys : List (List ℕ)) (c : Collected) → AsGood rules xs ys →
+    IsCollectionOf rules xs c ↔ IsCollectionOf rules ys c
 both_ways rules xs ys c good = (good_collection rules xs ys c good, good_collection rules ys xs c (good_back rules xs ys good))
 
-pub best_as : (rules : Ruleset) (xs ys : List (List ℕ)) (text : List ℕ) → AsGood rules xs ys → IsBestOver rules xs text → IsBestOver rules ys text
+pub best_as : (rules : Ruleset) (xs ys : List (List ℕ)) (text : List ℕ) → AsGood rules xs ys → IsBestOver rules xs text →
+    IsBestOver rules ys text
 best_as rules xs ys text good best = (best.0, good_collection rules xs ys best.0 good best.1, best.2)
 
 pub one_text : (rules : Ruleset) (xs : List (List ℕ)) (x y : List ℕ) → IsBestOver rules xs x → IsBestOver rules xs y → x ≡ y
@@ -35,7 +37,8 @@ pub whole-absorbed : (rules : Ruleset) (theirs own : List (List ℕ)) (text : Li
 whole-absorbed rules theirs own text c best =
     both_ways rules (own ++ text ∷ []) (own ++ theirs) c (good_joined rules own own (text ∷ []) theirs (good_itself rules own) (best_good rules theirs text best))
 
-pub better-absorbed : (rules : Ruleset) (theirs own earlier : List (List ℕ)) (fetched old text : List ℕ) (c : Collected) → IsBestOver rules theirs fetched →
+pub better-absorbed : (rules : Ruleset) (theirs own earlier : List (List ℕ)) (fetched old text : List ℕ) (c : Collected) →
+    IsBestOver rules theirs fetched →
     IsBestOver rules earlier old → ((t : List ℕ) → Contains earlier t → Contains own t) → IsBetterPart fetched old text →
     IsCollectionOf rules (own ++ text ∷ []) c ↔ IsCollectionOf rules (own ++ theirs) c
 better-absorbed rules theirs own earlier fetched old text c best old_best there b =
@@ -45,7 +48,8 @@ better-absorbed rules theirs own earlier fetched old text c best old_best there 
     (part_good rules fetched old text b (better_named rules fetched old text (from_best rules theirs fetched best) b) own covered)
     (good_joined rules own own (fetched ∷ []) theirs (good_itself rules own) (best_good rules theirs fetched best)))
 
-pub other-absorbed : (rules other : Ruleset) (theirs own : List (List ℕ)) (text : List ℕ) (c : Collected) → rules ≢ other → IsBestOver rules theirs text →
+pub other-absorbed : (rules other : Ruleset) (theirs own : List (List ℕ)) (text : List ℕ) (c : Collected) → rules ≢ other →
+    IsBestOver rules theirs text →
     IsCollectionOf other (own ++ text ∷ []) c ↔ IsCollectionOf other own c
 other-absorbed rules other theirs own text c apart best =
     let good : AsGood other (own ++ text ∷ []) (own ++ []) =
@@ -65,7 +69,8 @@ alike first second may_first may_second rules here there same x y best_x best_y 
     (best_as rules ((run second).taken there) sources y (run-good second may_second rules there) best_y)
 
 -- what is reached by all is as good as all texts from outside
-all-good : (before after : List Event) → AllMayHappen (before ++ after) start → outside_of after ≡ [] → (rules : Ruleset) (archives : List ℕ) →
+all-good : (before after : List Event) → AllMayHappen (before ++ after) start → outside_of after ≡ [] →
+    (rules : Ruleset) (archives : List ℕ) →
     OnlyAt archives before → (here : ℕ) → AllReach rules (run before) after archives here →
     AsGood rules ((run (before ++ after)).taken here) (outside_of (before ++ after))
 all-good before after may none rules archives only here reached =
@@ -77,13 +82,15 @@ all-good before after may none rules archives only here reached =
     subst (λ (v : Archives). Contains (v.sources rules here) t) (sym (run-append before after start))
     (reached first.0 (only first.0 t first.1) t (own-sources before start rules first.0 t first.1))))
 
-pub all-best : (before after : List Event) → AllMayHappen (before ++ after) start → outside_of after ≡ [] → (rules : Ruleset) (archives : List ℕ) →
+pub all-best : (before after : List Event) → AllMayHappen (before ++ after) start → outside_of after ≡ [] →
+    (rules : Ruleset) (archives : List ℕ) →
     OnlyAt archives before → (here : ℕ) → AllReach rules (run before) after archives here → (text : List ℕ) →
     IsBestOver rules ((run (before ++ after)).taken here) text → IsBestOver rules (outside_of (before ++ after)) text
 all-best before after may none rules archives only here reached text best =
     best_as rules ((run (before ++ after)).taken here) (outside_of (before ++ after)) text (all-good before after may none rules archives only here reached) best
 
-pub all-equal : (before after : List Event) → AllMayHappen (before ++ after) start → outside_of after ≡ [] → (rules : Ruleset) (archives : List ℕ) →
+pub all-equal : (before after : List Event) → AllMayHappen (before ++ after) start → outside_of after ≡ [] →
+    (rules : Ruleset) (archives : List ℕ) →
     OnlyAt archives before → (here there : ℕ) → AllReach rules (run before) after archives here → AllReach rules (run before) after archives there → (x y : List ℕ) →
     IsBestOver rules ((run (before ++ after)).taken here) x → IsBestOver rules ((run (before ++ after)).taken there) y → x ≡ y
 all-equal before after may none rules archives only here there reached_here reached_there x y best_x best_y =
@@ -93,7 +100,8 @@ all-equal before after may none rules archives only here there reached_here reac
 
 -- ---- what lasts
 
-pub never-worse : (events : List Event) (w : Archives) (rules : Ruleset) (here : ℕ) (old new : Collected) → IsCollectionOf rules (w.taken here) old →
+pub never-worse : (events : List Event) (w : Archives) (rules : Ruleset) (here : ℕ) (old new : Collected) →
+    IsCollectionOf rules (w.taken here) old →
     IsCollectionOf rules ((run_from events w).taken here) new → IsNoWorse old new
 never-worse events w rules here old new of_old of_new e has =
     let s = (of_old.best.best e has).member in
@@ -106,7 +114,8 @@ never-worse events w rules here old new of_old of_new e has =
     })
 
 -- what reaches an archive stays
-sources-last : (before middle after : List Event) (rules : Ruleset) (there here : ℕ) (text : List ℕ) → Reaches rules (run before) middle there here →
+sources-last : (before middle after : List Event) (rules : Ruleset) (there here : ℕ) (text : List ℕ) →
+    Reaches rules (run before) middle there here →
     Contains ((run before).sources rules there) text → Contains ((run (before ++ (middle ++ after))).sources rules here) text
 sources-last before middle after rules there here text reached has =
     let w = run before in
@@ -115,7 +124,8 @@ sources-last before middle after rules there here text reached has =
     subst (λ (m : Archives). Contains (m.sources rules here) text) (sym whole) (run-keeps after v rules here text (reached text has))
 
 -- a collection over texts holds each solution of each
-pub holds-solution : (rules : Ruleset) (texts : List (List ℕ)) (c : Collected) → IsCollectionOf rules texts c → (text : List ℕ) → Contains texts text → HoldsText c text
+pub holds-solution : (rules : Ruleset) (texts : List (List ℕ)) (c : Collected) → IsCollectionOf rules texts c → (text : List ℕ) →
+    Contains texts text → HoldsText c text
 holds-solution rules texts c of text among f is e has =
     held_by_best (IsSolutionIn rules texts) c.entries of.best e (record {
       text = text;
@@ -125,7 +135,8 @@ holds-solution rules texts c of text among f is e has =
       present = subst (λ (k : Ruleset). Contains (solutions_of k (f ∷ [])) e) of.ruleset_is has;
     })
 
-pub lasting : (before middle after : List Event) → AllMayHappen (before ++ (middle ++ after)) start → (rules : Ruleset) (there here : ℕ) (text : List ℕ) →
+pub lasting : (before middle after : List Event) → AllMayHappen (before ++ (middle ++ after)) start →
+    (rules : Ruleset) (there here : ℕ) (text : List ℕ) →
     Contains (own_of there before) text → Reaches rules (run before) middle there here → (c : Collected) →
     IsCollectionOf rules ((run (before ++ (middle ++ after))).taken here) c → HoldsText c text
 lasting before middle after may rules there here text own reached c of =
@@ -137,7 +148,8 @@ may-first : (first second : List Event) (w : Archives) → AllMayHappen (first +
 may-first [] second w may = tt
 may-first (e ∷ first) second w may = (may.0, may-first first second (happens e w) may.1)
 
-pub collection-lasts : (before middle after : List Event) → AllMayHappen (before ++ (middle ++ after)) start → (rules : Ruleset) (there here : ℕ) →
+pub collection-lasts : (before middle after : List Event) → AllMayHappen (before ++ (middle ++ after)) start →
+    (rules : Ruleset) (there here : ℕ) →
     Reaches rules (run before) middle there here → (old new : Collected) → IsCollectionOf rules ((run before).taken there) old →
     IsCollectionOf rules ((run (before ++ (middle ++ after))).taken here) new → IsNoWorse old new
 collection-lasts before middle after may rules there here reached old new of_old of_new e has =
@@ -154,7 +166,8 @@ collection-lasts before middle after may rules there here reached old new of_old
     })
 
 -- what a collection has comes from outside
-pub entries-outside : (events : List Event) → AllMayHappen events start → (rules : Ruleset) (here : ℕ) (c : Collected) → IsCollectionOf rules ((run events).taken here) c →
+pub entries-outside : (events : List Event) → AllMayHappen events start → (rules : Ruleset) (here : ℕ) (c : Collected) →
+    IsCollectionOf rules ((run events).taken here) c →
     (e : KeyedBody) → Contains c.entries e → IsSolutionIn rules (outside_of events) e
 entries-outside events may rules here c of e has =
     let s = (((sources-best events may rules here c).0 of).best.best e has).member in
@@ -163,7 +176,8 @@ entries-outside events may rules here c of e has =
 -- ---- what may happen
 
 -- what of a copy is better than another one of its ruleset is some text
-pub better-happens : (events : List Event) → AllMayHappen events start → (copy own : Copy) → Contains (run events).copies copy → Contains (run events).copies own →
+pub better-happens : (events : List Event) → AllMayHappen events start → (copy own : Copy) → Contains (run events).copies copy →
+    Contains (run events).copies own →
     own.rules ≡ copy.rules → (text : List ℕ) × IsBetterPart copy.text own.text text
 better-happens events may copy own has has_own same =
     some_better copy.rules copy.text own.text (copy-text events may copy has)
@@ -175,7 +189,8 @@ pub best-itself : (rules : Ruleset) (texts : List (List ℕ)) (text : List ℕ) 
 best-itself rules texts text best = nothing_itself rules text (from_best rules texts text best)
 
 -- a text of which nothing is better than another is covered by that one
-nothing_covered : (rules : Ruleset) (mine theirs : List ℕ) → IsCollectionText rules mine → HasNothingBetter mine theirs → Covers rules (theirs ∷ []) (mine ∷ [])
+nothing_covered : (rules : Ruleset) (mine theirs : List ℕ) → IsCollectionText rules mine → HasNothingBetter mine theirs →
+    Covers rules (theirs ∷ []) (mine ∷ [])
 nothing_covered rules mine theirs t none =
     let part = nothing_part rules mine theirs t none in
     let good = part_good rules mine theirs (empty_text rules) part (better_named rules mine theirs (empty_text rules) t part) (theirs ∷ []) (covers_itself rules (theirs ∷ [])) in
@@ -185,7 +200,8 @@ nothing_covered rules mine theirs t none =
     covers_then rules (theirs ∷ []) (theirs ∷ empty_text rules ∷ []) (mine ∷ []) empty
     (covers_then rules (theirs ∷ empty_text rules ∷ []) (theirs ∷ mine ∷ []) (mine ∷ []) good.0 (right_covers rules (theirs ∷ []) (mine ∷ [])))
 
-pub both-equal : (rules : Ruleset) (xs ys : List (List ℕ)) (x y : List ℕ) → IsBestOver rules xs x → IsBestOver rules ys y → HasNothingBetter x y → HasNothingBetter y x → x ≡ y
+pub both-equal : (rules : Ruleset) (xs ys : List (List ℕ)) (x y : List ℕ) → IsBestOver rules xs x → IsBestOver rules ys y →
+    HasNothingBetter x y → HasNothingBetter y x → x ≡ y
 both-equal rules xs ys x y best_x best_y none_x none_y =
     let good : AsGood rules (x ∷ []) (y ∷ []) =
     (nothing_covered rules y x (from_best rules ys y best_y) none_y, nothing_covered rules x y (from_best rules xs x best_x) none_x) in

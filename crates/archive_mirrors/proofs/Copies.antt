@@ -14,6 +14,7 @@ use Rattle.tws_best.proofs.Bests.{own_best, held_itself, held_in}
 use Rattle.tws_best.proofs.Choices.{best_of_is}
 use Rattle.tws_best.proofs.Sets.{own_collection, no_texts}
 use Rattle.tws_best.proofs.Collections.{best-collected}
+use Rattle.tws_best.proofs.Taking.{solved_entries}
 use Rattle.tws_best.proofs.Texts.{own_solutions, file_from, is_text, file_rules}
 use Rattle.tws_compare.specs.Standing.{standing_at, is_improvement}
 use Rattle.tws_compare.specs.Compare.{best_in, sides_of, better_entries, better_of}
@@ -41,7 +42,8 @@ from_best rules texts text best = record {
 }
 
 -- its collection is the one over the text
-own_text : (rules : Ruleset) (c : Collected) (text : List ℕ) → c.ruleset ≡ rules → IsCollected c → text ≡ collection_text c → IsCollectionOf rules (text ∷ []) c
+own_text : (rules : Ruleset) (c : Collected) (text : List ℕ) → c.ruleset ≡ rules → IsCollected c → text ≡ collection_text c →
+    IsCollectionOf rules (text ∷ []) c
 own_text rules c text rules_are fits text_is =
     subst (λ (k : Ruleset). IsCollectionOf k (text ∷ []) c) rules_are
     (subst (λ (t : List ℕ). IsCollectionOf c.ruleset (t ∷ []) c) (sym text_is) (own_collection c fits))
@@ -108,7 +110,8 @@ all_solutions rules f is =
     append-nil (solved_by rules f.ruleset f.records) ∙ ap (λ (k : Ruleset). solved_by rules k f.records) is ∙ own_solutions rules f.records
 
 -- the solutions of the text are those of its file
-text_solves : (rules : Ruleset) (text : List ℕ) (f : File) → IsText text f → f.ruleset ≡ rules → (e : KeyedBody) → IsSolutionIn rules (text ∷ []) e → Contains (solved_in f.records) e
+text_solves : (rules : Ruleset) (text : List ℕ) (f : File) → IsText text f → f.ruleset ≡ rules → (e : KeyedBody) →
+    IsSolutionIn rules (text ∷ []) e → Contains (solved_in f.records) e
 text_solves rules text f is named e s = elim (Contains-cases text [] s.text s.among) [
   | inl same ↦
       let one : s.file ≡ f = one_file text s.file f (subst (λ (x : List ℕ). IsText x s.file) (sym same) s.is_text) is in
@@ -116,7 +119,8 @@ text_solves rules text f is named e s = elim (Contains-cases text [] s.text s.am
   | inr none ↦ absurd (Contains-none s.text none)
 ]
 
-solves_text : (rules : Ruleset) (text : List ℕ) (f : File) → IsText text f → f.ruleset ≡ rules → (e : KeyedBody) → Contains (solved_in f.records) e → IsSolutionIn rules (text ∷ []) e
+solves_text : (rules : Ruleset) (text : List ℕ) (f : File) → IsText text f → f.ruleset ≡ rules → (e : KeyedBody) →
+    Contains (solved_in f.records) e → IsSolutionIn rules (text ∷ []) e
 solves_text rules text f is named e has = record {
   text = text;
   among = Contains-here text [];
@@ -203,11 +207,13 @@ module _ (rules : Ruleset) (mine theirs text : List ℕ) (b : IsBetterPart mine 
       )
 
 -- what is better of a collection is the text of one
-pub better_named : (rules : Ruleset) (mine theirs text : List ℕ) → IsCollectionText rules mine → (b : IsBetterPart mine theirs text) → b.my_file.ruleset ≡ rules
+pub better_named : (rules : Ruleset) (mine theirs text : List ℕ) → IsCollectionText rules mine → (b : IsBetterPart mine theirs text) →
+    b.my_file.ruleset ≡ rules
 better_named rules mine theirs text t b = file_of rules mine b.my_file t b.my_text
 
 -- if nothing is better, that is the text of a collection that has nothing
-pub nothing_part : (rules : Ruleset) (mine theirs : List ℕ) → IsCollectionText rules mine → HasNothingBetter mine theirs → IsBetterPart mine theirs (empty_text rules)
+pub nothing_part : (rules : Ruleset) (mine theirs : List ℕ) → IsCollectionText rules mine → HasNothingBetter mine theirs →
+    IsBetterPart mine theirs (empty_text rules)
 nothing_part rules mine theirs t b =
     let make : Ruleset → List KeyedBody → Collected = λ k es. record { «ruleset» = k; entries = es } in
     let named : b.my_file.ruleset ≡ rules = file_of rules mine b.my_file t b.my_text in

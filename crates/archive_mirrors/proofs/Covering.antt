@@ -29,7 +29,8 @@ holds_then IsFirst IsSecond IsThird first second f third =
     }
 
 -- sets that hold one another have the same best
-pub same_best : (IsFirst IsSecond : KeyedBody → Type 0) (es : List KeyedBody) → Holds IsFirst IsSecond → Holds IsSecond IsFirst → IsBestOf IsFirst es → IsBestOf IsSecond es
+pub same_best : (IsFirst IsSecond : KeyedBody → Type 0) (es : List KeyedBody) → Holds IsFirst IsSecond → Holds IsSecond IsFirst →
+    IsBestOf IsFirst es → IsBestOf IsSecond es
 same_best IsFirst IsSecond es there back of = record {
   rising = of.rising;
   best = λ e has.
@@ -51,7 +52,8 @@ same_best IsFirst IsSecond es there back of = record {
 }
 
 -- sets with the same best hold one another
-pub holds_best : (IsFirst IsSecond : KeyedBody → Type 0) (es : List KeyedBody) → IsBestOf IsFirst es → IsBestOf IsSecond es → Holds IsFirst IsSecond
+pub holds_best : (IsFirst IsSecond : KeyedBody → Type 0) (es : List KeyedBody) → IsBestOf IsFirst es → IsBestOf IsSecond es →
+    Holds IsFirst IsSecond
 holds_best IsFirst IsSecond es of_first of_second f member =
     held_in (Contains es) IsFirst (λ e has. (of_first.best e has).member) f (held_by_best IsSecond es of_second f member)
 
@@ -108,7 +110,8 @@ module _ (rules : Ruleset) where
   good_joined xs ys zs ws first second = (covers_joined xs ys zs ws first.0 second.0, covers_joined ys xs ws zs first.1 second.1)
 
   -- lists with the same members
-  pub good_members : (xs ys : List (List ℕ)) → ((t : List ℕ) → Contains xs t → Contains ys t) → ((t : List ℕ) → Contains ys t → Contains xs t) → AsGood xs ys
+  pub good_members : (xs ys : List (List ℕ)) → ((t : List ℕ) → Contains xs t → Contains ys t) →
+      ((t : List ℕ) → Contains ys t → Contains xs t) → AsGood xs ys
   good_members xs ys there back = (more_cover ys xs back, more_cover xs ys there)
 
   -- texts that are as good have the same collection

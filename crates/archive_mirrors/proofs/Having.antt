@@ -22,7 +22,8 @@ use Rattle.archive_mirrors.proofs.Copies.{IsCollectionText}
 -- ---- a collection over any texts
 
 -- one more text
-one_more : (rules : Ruleset) (texts : List (List ℕ)) (text : List ℕ) (c : Collected) → IsCollectionOf rules texts c → IsReadable text ⊎ (IsReadable text → ⊥) →
+one_more : (rules : Ruleset) (texts : List (List ℕ)) (text : List ℕ) (c : Collected) → IsCollectionOf rules texts c →
+    IsReadable text ⊎ (IsReadable text → ⊥) →
     (d : Collected) × IsCollectionOf rules (texts ++ text ∷ []) d
 one_more rules texts text c of (inl readable) =
     let d : Collected = record { «ruleset» = c.ruleset; entries = best_of (c.entries ++ solutions_of c.ruleset (readable.0 ∷ [])) } in
@@ -30,7 +31,8 @@ one_more rules texts text c of (inl readable) =
 one_more rules texts text c of (inr never) = (c, one_more_unreadable rules texts text c of never)
 
 -- and further ones
-over_more : (rules : Ruleset) (texts more : List (List ℕ)) (c : Collected) → IsCollectionOf rules texts c → (d : Collected) × IsCollectionOf rules (texts ++ more) d
+over_more : (rules : Ruleset) (texts more : List (List ℕ)) (c : Collected) → IsCollectionOf rules texts c →
+    (d : Collected) × IsCollectionOf rules (texts ++ more) d
 over_more rules texts [] c of = (c, subst (λ (ts : List (List ℕ)). IsCollectionOf rules ts c) (sym (append-nil texts)) of)
 over_more rules texts (text ∷ more) c of =
     let next = one_more rules texts text c of (readable_or_not text) in
@@ -44,7 +46,8 @@ some_best rules texts =
 
 -- ---- what is better
 
-pub some_better : (rules : Ruleset) (mine theirs : List ℕ) → IsCollectionText rules mine → IsCollectionText rules theirs → (text : List ℕ) × IsBetterPart mine theirs text
+pub some_better : (rules : Ruleset) (mine theirs : List ℕ) → IsCollectionText rules mine → IsCollectionText rules theirs →
+    (text : List ℕ) × IsBetterPart mine theirs text
 some_better rules mine theirs m t =
     let my_file = file_from m.collection m.fits in
     let their_file = file_from t.collection t.fits in (

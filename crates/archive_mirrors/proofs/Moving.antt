@@ -35,7 +35,8 @@ module _ {X : Type 0} where
 -- ---- what is kept
 
 -- what was taken stays
-pub step-keeps_taken : (e : Event) (w : Archives) (here : ℕ) (t : List ℕ) → Contains (w.taken here) t → Contains ((happens e w).taken here) t
+pub step-keeps_taken : (e : Event) (w : Archives) (here : ℕ) (t : List ℕ) → Contains (w.taken here) t →
+    Contains ((happens e w).taken here) t
 step-keeps_taken (takes archive text) w here t has = Contains-append_left (w.taken here) (at_archive archive here (text ∷ [])) t has
 step-keeps_taken (fetches archive rules text) w here t has = has
 step-keeps_taken (puts archive copy) w here t has = Contains-append_left (w.taken here) (at_archive archive here (copy.text ∷ [])) t has
@@ -43,12 +44,14 @@ step-keeps_taken (puts_better archive copy own text) w here t has = Contains-app
 step-keeps_taken (skips archive copy own) w here t has = has
 step-keeps_taken (restarts archive) w here t has = has
 
-pub run-keeps_taken : (events : List Event) (w : Archives) (here : ℕ) (t : List ℕ) → Contains (w.taken here) t → Contains ((run_from events w).taken here) t
+pub run-keeps_taken : (events : List Event) (w : Archives) (here : ℕ) (t : List ℕ) → Contains (w.taken here) t →
+    Contains ((run_from events w).taken here) t
 run-keeps_taken [] w here t has = has
 run-keeps_taken (e ∷ events) w here t has = run-keeps_taken events (happens e w) here t (step-keeps_taken e w here t has)
 
 -- and so do its sources
-pub step-keeps : (e : Event) (w : Archives) (rules : Ruleset) (here : ℕ) (t : List ℕ) → Contains (w.sources rules here) t → Contains ((happens e w).sources rules here) t
+pub step-keeps : (e : Event) (w : Archives) (rules : Ruleset) (here : ℕ) (t : List ℕ) → Contains (w.sources rules here) t →
+    Contains ((happens e w).sources rules here) t
 step-keeps (takes archive text) w rules here t has = Contains-append_left (w.sources rules here) (at_archive archive here (text ∷ [])) t has
 step-keeps (fetches archive named text) w rules here t has = has
 step-keeps (puts archive copy) w rules here t has = Contains-append_left (w.sources rules here) (at_archive archive here (of_ruleset copy.rules rules copy.sources)) t has
@@ -56,7 +59,8 @@ step-keeps (puts_better archive copy own text) w rules here t has = Contains-app
 step-keeps (skips archive copy own) w rules here t has = Contains-append_left (w.sources rules here) (at_archive archive here (of_ruleset copy.rules rules copy.sources)) t has
 step-keeps (restarts archive) w rules here t has = has
 
-pub run-keeps : (events : List Event) (w : Archives) (rules : Ruleset) (here : ℕ) (t : List ℕ) → Contains (w.sources rules here) t → Contains ((run_from events w).sources rules here) t
+pub run-keeps : (events : List Event) (w : Archives) (rules : Ruleset) (here : ℕ) (t : List ℕ) → Contains (w.sources rules here) t →
+    Contains ((run_from events w).sources rules here) t
 run-keeps [] w rules here t has = has
 run-keeps (e ∷ events) w rules here t has = run-keeps events (happens e w) rules here t (step-keeps e w rules here t has)
 
@@ -67,7 +71,8 @@ run-append (e ∷ first) second w = run-append first second (happens e w)
 -- ---- texts from outside
 
 -- what an archive takes from outside is among its sources
-pub own-sources : (events : List Event) (w : Archives) (rules : Ruleset) (here : ℕ) (t : List ℕ) → Contains (own_of here events) t → Contains ((run_from events w).sources rules here) t
+pub own-sources : (events : List Event) (w : Archives) (rules : Ruleset) (here : ℕ) (t : List ℕ) → Contains (own_of here events) t →
+    Contains ((run_from events w).sources rules here) t
 own-sources [] w rules here t has = absurd (Contains-none t has)
 own-sources (takes archive text ∷ events) w rules here t has =
     let rest = own-sources events (happens (takes archive text) w) rules here t in
@@ -97,7 +102,8 @@ module _ (P : List ℕ → Type 0) where
     copies = from.copies;
   }
 
-  step-from : (e : Event) (w : Archives) → MayHappen e w → ((t : List ℕ) → Contains (outside_of (e ∷ [])) t → P t) → AllFrom P w → AllFrom P (happens e w)
+  step-from : (e : Event) (w : Archives) → MayHappen e w → ((t : List ℕ) → Contains (outside_of (e ∷ [])) t → P t) → AllFrom P w →
+      AllFrom P (happens e w)
   step-from (takes archive text) w may each from = texts-from archive text (λ rules. text ∷ []) w from (λ rules. each)
   step-from (fetches archive rules text) w may each from = record {
     archives = from.archives;
@@ -138,7 +144,8 @@ outside-later (puts_better archive copy own text) events t has = has
 outside-later (skips archive copy own) events t has = has
 outside-later (restarts archive) events t has = has
 
-run-from : (P : List ℕ → Type 0) (events : List Event) (w : Archives) → AllMayHappen events w → ((t : List ℕ) → Contains (outside_of events) t → P t) →
+run-from : (P : List ℕ → Type 0) (events : List Event) (w : Archives) → AllMayHappen events w →
+    ((t : List ℕ) → Contains (outside_of events) t → P t) →
     AllFrom P w → AllFrom P (run_from events w)
 run-from P [] w may each from = from
 run-from P (e ∷ events) w may each from =
@@ -146,7 +153,8 @@ run-from P (e ∷ events) w may each from =
     (step-from P e w may.0 (λ t has. each t (outside-first e events t has)) from)
 
 -- no source comes from nowhere
-pub sources-outside : (events : List Event) → AllMayHappen events start → (rules : Ruleset) (here : ℕ) (t : List ℕ) → Contains ((run events).sources rules here) t → Contains (outside_of events) t
+pub sources-outside : (events : List Event) → AllMayHappen events start → (rules : Ruleset) (here : ℕ) (t : List ℕ) →
+    Contains ((run events).sources rules here) t → Contains (outside_of events) t
 sources-outside events may rules here t has =
     (run-from (Contains (outside_of events)) events start may (λ x among. among)
     (record { archives = λ k n x none. absurd (Contains-none x none); copies = λ copy none. absurd (Contains-none copy none) })).archives rules here t has
@@ -171,7 +179,8 @@ taken-somewhere (skips archive copy own ∷ events) t has = taken-somewhere even
 taken-somewhere (restarts archive ∷ events) t has = taken-somewhere events t has
 
 -- all texts from outside, if nothing comes from outside at last
-pub outside-before : (before after : List Event) → outside_of after ≡ [] → (t : List ℕ) → Contains (outside_of (before ++ after)) t → Contains (outside_of before) t
+pub outside-before : (before after : List Event) → outside_of after ≡ [] → (t : List ℕ) → Contains (outside_of (before ++ after)) t →
+    Contains (outside_of before) t
 outside-before [] after none t has = subst (λ (xs : List (List ℕ)). Contains xs t) none has
 outside-before (takes archive text ∷ before) after none t has =
     let rest = outside-before before after none t in
@@ -188,7 +197,8 @@ outside-before (restarts archive ∷ before) after none t has = outside-before b
 -- ---- what reaches an archive
 
 -- a put brings the sources of its copy
-brought : (w : Archives) (here : ℕ) (copy : Copy) (t : List ℕ) → Contains copy.sources t → Contains (w.sources copy.rules here ++ at_archive here here (of_ruleset copy.rules copy.rules copy.sources)) t
+brought : (w : Archives) (here : ℕ) (copy : Copy) (t : List ℕ) → Contains copy.sources t →
+    Contains (w.sources copy.rules here ++ at_archive here here (of_ruleset copy.rules copy.rules copy.sources)) t
 brought w here copy t has =
     Contains-append_right (w.sources copy.rules here) (at_archive here here (of_ruleset copy.rules copy.rules copy.sources)) t
     (subst (λ (xs : List (List ℕ)). Contains xs t) (sym (at_itself here (of_ruleset copy.rules copy.rules copy.sources) ∙ of_itself copy.rules copy.sources)) has)
@@ -199,7 +209,8 @@ brought_at w archive here one copy t same has =
     subst (λ (n : ℕ). Contains (w.sources copy.rules here ++ at_archive n here (of_ruleset one.rules copy.rules one.sources)) t) (sym same.0)
     (subst (λ (c : Copy). Contains (w.sources copy.rules here ++ at_archive here here (of_ruleset c.rules copy.rules c.sources)) t) (sym same.1) (brought w here copy t has))
 
-put-brings : (put : Event) (w : Archives) (here : ℕ) (copy : Copy) → Brings put here copy → (t : List ℕ) → Contains copy.sources t → Contains ((happens put w).sources copy.rules here) t
+put-brings : (put : Event) (w : Archives) (here : ℕ) (copy : Copy) → Brings put here copy → (t : List ℕ) → Contains copy.sources t →
+    Contains ((happens put w).sources copy.rules here) t
 put-brings (takes archive text) w here copy is t has = absurd is
 put-brings (fetches archive rules text) w here copy is t has = absurd is
 put-brings (puts archive one) w here copy is t has = brought_at w archive here one copy t is has
@@ -207,7 +218,8 @@ put-brings (puts_better archive one own text) w here copy is t has = brought_at 
 put-brings (skips archive one own) w here copy is t has = brought_at w archive here one copy t is has
 put-brings (restarts archive) w here copy is t has = absurd is
 
-pub sync-reaches : (rules : Ruleset) (w : Archives) (events : List Event) (there here : ℕ) → Syncs rules w events there here → Reaches rules w events there here
+pub sync-reaches : (rules : Ruleset) (w : Archives) (events : List Event) (there here : ℕ) → Syncs rules w events there here →
+    Reaches rules w events there here
 sync-reaches rules w events there here s t has =
     let at = run_from s.before w in
     let copy = copy_of at there rules s.text in
@@ -221,7 +233,8 @@ sync-reaches rules w events there here s t has =
     run-append s.between (s.put ∷ s.after) fetched in
     subst (λ (v : Archives). Contains (v.sources rules here) t) (sym whole) here_last
 
-pub reaches-then : (rules : Ruleset) (w : Archives) (first second : List Event) (there between here : ℕ) → Reaches rules w first there between →
+pub reaches-then : (rules : Ruleset) (w : Archives) (first second : List Event) (there between here : ℕ) →
+    Reaches rules w first there between →
     Reaches rules (run_from first w) second between here → Reaches rules w (first ++ second) there here
 reaches-then rules w first second there between here one other t has =
     subst (λ (v : Archives). Contains (v.sources rules here) t) (sym (run-append first second w)) (other t (one t has))

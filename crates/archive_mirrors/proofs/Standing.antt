@@ -29,20 +29,23 @@ ms-apart : Ms ≢ Lynx
 ms-apart is = cc
 
 -- at each archive
-good_at : (rules : Ruleset) (archive here : ℕ) (b : Bool) (xs ys zs ws : ℕ → List (List ℕ)) → (archive == here) ≡ b → AsGood rules (xs here) (ys here) →
+good_at : (rules : Ruleset) (archive here : ℕ) (b : Bool) (xs ys zs ws : ℕ → List (List ℕ)) → (archive == here) ≡ b →
+    AsGood rules (xs here) (ys here) →
     AsGood rules (xs archive ++ zs archive) (ys archive ++ ws archive) →
     AsGood rules (xs here ++ (if b then zs archive else [])) (ys here ++ (if b then ws archive else []))
 good_at rules archive here true xs ys zs ws is stands more =
     subst (λ (n : ℕ). AsGood rules (xs n ++ zs archive) (ys n ++ ws archive)) (eqb-true archive here is) more
 good_at rules archive here false xs ys zs ws is stands more = good_joined rules (xs here) (ys here) [] [] stands (good_itself rules [])
 
-sources_at : (rules : Ruleset) (archive here : ℕ) (b : Bool) (xs ys : ℕ → List (List ℕ)) (more : List (List ℕ)) → (archive == here) ≡ b → AsGood rules (xs here) (ys here) →
+sources_at : (rules : Ruleset) (archive here : ℕ) (b : Bool) (xs ys : ℕ → List (List ℕ)) (more : List (List ℕ)) → (archive == here) ≡ b →
+    AsGood rules (xs here) (ys here) →
     AsGood rules (xs archive) (ys archive ++ more) → AsGood rules (xs here) (ys here ++ (if b then more else []))
 sources_at rules archive here true xs ys more is stands good = subst (λ (n : ℕ). AsGood rules (xs n) (ys n ++ more)) (eqb-true archive here is) good
 sources_at rules archive here false xs ys more is stands good = subst (AsGood rules (xs here)) (sym (append-nil (ys here))) stands
 
 -- a copy stands also later
-later : (taken more : ℕ → List (List ℕ)) → ((here : ℕ) (t : List ℕ) → Contains (taken here) t → Contains (more here) t) → (copy : Copy) → CopyStands taken copy → CopyStands more copy
+later : (taken more : ℕ → List (List ℕ)) → ((here : ℕ) (t : List ℕ) → Contains (taken here) t → Contains (more here) t) → (copy : Copy) →
+    CopyStands taken copy → CopyStands more copy
 later taken more there copy c = record {
   is_text = c.is_text;
   good = c.good;
@@ -50,7 +53,8 @@ later taken more there copy c = record {
 }
 
 text-stands : (archive : ℕ) (text : List ℕ) (more : Ruleset → List (List ℕ)) (w : Archives) → Stands w →
-    ((rules : Ruleset) → AsGood rules (w.taken archive ++ text ∷ []) (w.sources rules archive ++ more rules)) → Stands (with_text archive text more w)
+    ((rules : Ruleset) → AsGood rules (w.taken archive ++ text ∷ []) (w.sources rules archive ++ more rules)) →
+    Stands (with_text archive text more w)
 text-stands archive text more w stands good = record {
   archives = λ rules here.
       good_at rules archive here (archive == here) w.taken (w.sources rules) (λ n. text ∷ []) (λ n. more rules) refl (stands.archives rules here) (good rules);
@@ -58,14 +62,16 @@ text-stands archive text more w stands good = record {
 }
 
 -- the whole of a copy
-copy_good : (its rules : Ruleset) (text : List ℕ) (sources : List (List ℕ)) → IsCollectionText its text → AsGood its (text ∷ []) sources → AsGood rules (text ∷ []) (of_ruleset its rules sources)
+copy_good : (its rules : Ruleset) (text : List ℕ) (sources : List (List ℕ)) → IsCollectionText its text → AsGood its (text ∷ []) sources →
+    AsGood rules (text ∷ []) (of_ruleset its rules sources)
 copy_good Lynx Lynx text sources t good = good
 copy_good Lynx Ms text sources t good = other_good Lynx Ms text lynx-apart t
 copy_good Ms Lynx text sources t good = other_good Ms Lynx text ms-apart t
 copy_good Ms Ms text sources t good = good
 
 -- what of a copy is better, for the copy's own ruleset
-same_better : (rules : Ruleset) (taken sources more : List (List ℕ)) (mine theirs text : List ℕ) → IsCollectionText rules mine → IsBetterPart mine theirs text →
+same_better : (rules : Ruleset) (taken sources more : List (List ℕ)) (mine theirs text : List ℕ) → IsCollectionText rules mine →
+    IsBetterPart mine theirs text →
     AsGood rules (mine ∷ []) more → Covers rules taken (theirs ∷ []) → AsGood rules taken sources → AsGood rules (taken ++ text ∷ []) (sources ++ more)
 same_better rules taken sources more mine theirs text t b good covered stands =
     good_then rules (taken ++ text ∷ []) (taken ++ mine ∷ []) (sources ++ more)
@@ -73,13 +79,15 @@ same_better rules taken sources more mine theirs text t b good covered stands =
     (good_joined rules taken sources (mine ∷ []) more stands good)
 
 -- and for the other one
-other_better : (its rules : Ruleset) (taken sources : List (List ℕ)) (mine theirs text : List ℕ) → its ≢ rules → IsCollectionText its mine → IsBetterPart mine theirs text →
+other_better : (its rules : Ruleset) (taken sources : List (List ℕ)) (mine theirs text : List ℕ) → its ≢ rules →
+    IsCollectionText its mine → IsBetterPart mine theirs text →
     AsGood rules taken sources → AsGood rules (taken ++ text ∷ []) (sources ++ [])
 other_better its rules taken sources mine theirs text apart t b stands =
     good_joined rules taken sources (text ∷ []) [] stands
     (other_good its rules text apart (part_text its mine theirs text b (better_named its mine theirs text t b)))
 
-better_good : (its rules : Ruleset) (taken sources more : List (List ℕ)) (mine theirs text : List ℕ) → IsCollectionText its mine → IsBetterPart mine theirs text →
+better_good : (its rules : Ruleset) (taken sources more : List (List ℕ)) (mine theirs text : List ℕ) → IsCollectionText its mine →
+    IsBetterPart mine theirs text →
     AsGood its (mine ∷ []) more → Covers its taken (theirs ∷ []) → AsGood rules taken sources → AsGood rules (taken ++ text ∷ []) (sources ++ of_ruleset its rules more)
 better_good Lynx Lynx taken sources more mine theirs text t b good covered stands = same_better Lynx taken sources more mine theirs text t b good covered stands
 better_good Lynx Ms taken sources more mine theirs text t b good covered stands = other_better Lynx Ms taken sources mine theirs text lynx-apart t b stands
@@ -87,7 +95,8 @@ better_good Ms Lynx taken sources more mine theirs text t b good covered stands 
 better_good Ms Ms taken sources more mine theirs text t b good covered stands = same_better Ms taken sources more mine theirs text t b good covered stands
 
 -- the archive's own copy is of the same ruleset, and the archive has all of it
-own_covered : (copy own : Copy) (archive : ℕ) (text : List ℕ) (taken : ℕ → List (List ℕ)) → CopyStands taken copy → CopyStands taken own → own.archive ≡ archive →
+own_covered : (copy own : Copy) (archive : ℕ) (text : List ℕ) (taken : ℕ → List (List ℕ)) → CopyStands taken copy → CopyStands taken own →
+    own.archive ≡ archive →
     IsBetterPart copy.text own.text text → Covers copy.rules (taken archive) (own.text ∷ [])
 own_covered copy own archive text taken c o own-is b =
     let same : own.rules ≡ copy.rules =
@@ -97,7 +106,8 @@ own_covered copy own archive text taken c o own-is b =
 
 -- an archive has all of a copy
 sources-stand : (archive : ℕ) (copy : Copy) (w : Archives) → Stands w →
-    ((rules : Ruleset) → AsGood rules (w.taken archive) (w.sources rules archive ++ of_ruleset copy.rules rules copy.sources)) → Stands (with_sources archive copy w)
+    ((rules : Ruleset) → AsGood rules (w.taken archive) (w.sources rules archive ++ of_ruleset copy.rules rules copy.sources)) →
+    Stands (with_sources archive copy w)
 sources-stand archive copy w stands good = record {
   archives = λ rules here. sources_at rules archive here (archive == here) w.taken (w.sources rules) (of_ruleset copy.rules rules copy.sources) refl (stands.archives rules here) (good rules);
   copies = stands.copies;
@@ -157,9 +167,11 @@ start-stands : Stands start
 start-stands = record { archives = λ rules here. good_itself rules []; copies = λ copy none. absurd (Contains-none copy none) }
 
 -- what is taken is as good as the sources
-pub run-good : (events : List Event) → AllMayHappen events start → (rules : Ruleset) (here : ℕ) → AsGood rules ((run events).taken here) ((run events).sources rules here)
+pub run-good : (events : List Event) → AllMayHappen events start → (rules : Ruleset) (here : ℕ) →
+    AsGood rules ((run events).taken here) ((run events).sources rules here)
 run-good events may rules here = (run-stands events start may start-stands).archives rules here
 
 -- a copy has the text of a collection of its ruleset
-pub copy-text : (events : List Event) → AllMayHappen events start → (copy : Copy) → Contains (run events).copies copy → IsCollectionText copy.rules copy.text
+pub copy-text : (events : List Event) → AllMayHappen events start → (copy : Copy) → Contains (run events).copies copy →
+    IsCollectionText copy.rules copy.text
 copy-text events may copy has = ((run-stands events start may start-stands).copies copy has).is_text
