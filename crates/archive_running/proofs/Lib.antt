@@ -10,3 +10,4 @@ pub mod Sample_Turns
 pub mod Call_Moves
 pub mod Sample_Rounds
 pub mod Start_Chain
+pub mod Sample_Starts
