@@ -11,5 +11,6 @@ pub mod Run_Moves
 pub mod Sample_Turns
 pub mod Call_Moves
 pub mod Sample_Rounds
+pub mod Sample_Unknown
 pub mod Start_Chain
 pub mod Sample_Starts

@@ -81,10 +81,10 @@ round_members port a answers = visit_members a.home.host (ready_next (Some port)
 
 -- ---- both ends
 
-abbrev client : (host : ℕ) → Endpoint
+abbrev pub client : (host : ℕ) → Endpoint
 client host = record { host = host; port = 5000 }
 
-abbrev port_of : (port : ℕ) → Endpoint
+abbrev pub port_of : (port : ℕ) → Endpoint
 port_of port = record { host = server_endpoint.host; port = port }
 
 abbrev receives_from : Endpoint → (spare : ℕ) → List ℕ → Answers
@@ -102,11 +102,11 @@ receives_from from spare bytes =
 abbrev answered : (port : ℕ) → List ℕ → RunAnswers
 answered port bytes = record { receipt = datagram (port_of port) bytes; verdict = granted; sent = true }
 
-abbrev asking : Operation → Run
+abbrev pub asking : Operation → Run
 asking operation =
     record { client = client_start 5000 server_endpoint operation; port = 5000; left = QUIET_TURNS }
 
-abbrev begun : (host : ℕ) → Operation → Archive → Archive
+abbrev pub begun : (host : ℕ) → Operation → Archive → Archive
 begun host operation a =
     after_begin host operation (asking operation)
     (begin_opened (Some 5000) a.home operation (record { sent = true; closed = true })).calls a
@@ -114,10 +114,10 @@ begun host operation a =
 abbrev pub request : (host spare : ℕ) → Operation → Answers
 request host spare operation = receives_from (client host) spare (request_out operation (asking operation).client).dgram
 
-abbrev client_turned : (host : ℕ) → Run → RunAnswers → Archive → Archive
+abbrev pub client_turned : (host : ℕ) → Run → RunAnswers → Archive → Archive
 client_turned host r answers a = after_client_turn host r (run_turn answers r).run (run_turn answers r).calls a
 
-begins : (host : ℕ) (operation : Operation) (a : Archive) → host ≢ a.home.host →
+pub begins : (host : ℕ) (operation : Operation) (a : Archive) → host ≢ a.home.host →
     (begin_opened (Some 5000) a.home operation (record { sent = true; closed = true })).result ≡ Ok (asking operation) →
     Moves a (begun host operation a) (does (starts (client host) operation) ∷ [])
 begins host operation a away is =
@@ -125,34 +125,34 @@ begins host operation a away is =
 
 -- ---- the put
 
-abbrev hundred : Operation
+abbrev pub hundred : Operation
 hundred = put (sample_file 100)
 
-abbrev nothing_kept : Option (List Keeping)
+abbrev pub nothing_kept : Option (List Keeping)
 nothing_kept = Some []
 
 abbrev pub kept : Option (List Keeping)
 kept = Some (keeping Lynx (sample_file 100) true ∷ [])
 
-abbrev first : Archive
+abbrev pub first : Archive
 first = begun 2 hundred (idle from_nothing nothing_kept)
 
-abbrev opened : Archive
+abbrev pub opened : Archive
 opened = rounded 6969 first (request 2 4000 hundred) nothing_kept
 
-abbrev first_ack : RunAnswers
+abbrev pub first_ack : RunAnswers
 first_ack = answered 4000 (encode (ack 0))
 
-abbrev bound : Archive
+abbrev pub bound : Archive
 bound = client_turned 2 (asking hundred) first_ack opened
 
-abbrev block : Answers
+abbrev pub block : Answers
 block = receives_from (client 2) 0 (encode (data_block 1 (sample_file 100)))
 
 abbrev taken : Archive
 taken = rounded 4000 bound block kept
 
-abbrev sending : Run
+abbrev pub sending : Run
 sending = (run_turn first_ack (asking hundred)).run
 
 abbrev last_ack : RunAnswers
@@ -176,7 +176,7 @@ binds_put =
     client_turns opened 2 (asking hundred) sending calls (record { answers = first_ack; run = refl; calls_are = refl }) (λ e. cc) refl
     (brings_at 2 calls opened _ 1 refl refl)
 
-changes : (sample_maps 100).lynx ≢ empty_maps.lynx
+pub changes : (sample_maps 100).lynx ≢ empty_maps.lynx
 changes e = let entries : (sample_maps 100).lynx.entries ≡ [] = ap (λ (c : Collected). c.entries) e in absurd cc
 
 takes : Moves bound taken (round_members 4000 bound block)
@@ -199,11 +199,20 @@ put_members =
     [] ++ (does (starts (client 2) hundred) ∷ []) ++ round_members 6969 first (request 2 4000 hundred) ++ client_members first_ack 2 (asking hundred)
     ++ round_members 4000 bound block ++ client_members last_ack 2 sending
 
+-- until the block is sent
+abbrev pub bound_members : List Member
+bound_members =
+    [] ++ (does (starts (client 2) hundred) ∷ []) ++ round_members 6969 first (request 2 4000 hundred) ++ client_members first_ack 2 (asking hundred)
+
+pub bound-reaches : Reaches from_nothing bound bound_members
+unfolding encode decode_bytes block_of
+bound-reaches =
+    let begins_put = begins 2 hundred (idle from_nothing nothing_kept) (λ e. cc) refl in
+    more (more (more (reported [] none-loads) begins_put) opens_put) binds_put
+
 pub put-reaches : Reaches from_nothing acked put_members
 unfolding encode decode_bytes block_of
-put-reaches =
-    let begins_put = begins 2 hundred (idle from_nothing nothing_kept) (λ e. cc) refl in
-    more (more (more (more (more (reported [] none-loads) begins_put) opens_put) binds_put) takes) ends_put
+put-reaches = more (more bound-reaches takes) ends_put
 
 -- ---- the put as a whole call
 
@@ -376,7 +385,7 @@ own = own-by (world_of whole_run) refl refl refl
 
 -- each of its moves is a round, or not the server's
 by_rounds : IsByRounds reaches
-unfolding encode decode_bytes block_of reaches put-reaches begins opens_put binds_put takes ends_put restarts opens_get gets
+unfolding encode decode_bytes block_of reaches put-reaches bound-reaches begins opens_put binds_put takes ends_put restarts opens_get gets
 by_rounds = (((((((((tt, tt), tt), tt), tt), tt), tt), tt), tt), tt)
 
 pub serves-on : CanRestart (sample_file 100)

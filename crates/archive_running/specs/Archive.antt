@@ -5,6 +5,7 @@ use Rattle.std.specs.Prelude.{◌≡◌, ◌≢◌, ◌⊎◌, ℕ, Bool, List, 
 use Rattle.std.specs.Map.{lookup, set_value}
 use Rattle.std.specs.Io.KnownBytes.{Appends}
 use Rattle.tftp_packet.specs.declared.endpoint.Endpoint.{Endpoint}
+use Rattle.tftp_packet.specs.declared.cause.Cause.TheVariants.{Refused}
 use Rattle.tws_file.specs.declared.«ruleset».Ruleset.TheVariants.{Lynx, Ms}
 use Rattle.archive_table.specs.Table.{Table, Maps, Taken, all, unkept, is_same, table_datagram, IsMerged}
 use Rattle.archive_table.specs.Keeper.{Keeping, LoadedFrom, KeepsMaps}
@@ -270,5 +271,20 @@ pub record CanRestart (file : List ℕ) : Type 0 where
   pub putter : Endpoint
   pub sent : (c : Client) × (lookup (is_same putter) run.archive.clients ≡ Some c) × (state_of c ≡ state.Sent)
   pub taken : run.archive.taken ≡ record { peer = putter; file = file } ∷ []
+  pub getter : Endpoint
+  pub got : (c : Client) × (lookup (is_same getter) run.archive.clients ≡ Some c) × (file_or_client c ≡ Ok file)
+
+-- An archive that has nothing at first can end in a keep of this file, answer its put that it was not kept, and find it at the
+-- next start; a get then has fetched it.
+pub record CanEnd (file : List ℕ) : Type 0 where
+  pub run : ArchiveRun (empty_origin server_endpoint)
+  pub datagram : Datagram
+  pub maps : Maps
+  pub ends : Contains run.members (end_member datagram maps)
+  pub own : HasOwnPorts (world_of run)
+  pub putter : Endpoint
+  pub refused : (c : Client) × (code : ℕ) × (lookup (is_same putter) run.archive.clients ≡ Some c) × (state_of c ≡ state.Failed (Refused code))
+  pub taken : run.archive.taken ≡ record { peer = putter; file = file } ∷ []
+  pub recovered : (world_of run).recovered ≡ run.archive.taken
   pub getter : Endpoint
   pub got : (c : Client) × (lookup (is_same getter) run.archive.clients ≡ Some c) × (file_or_client c ≡ Ok file)

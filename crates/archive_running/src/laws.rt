@@ -19,7 +19,7 @@ ghost use Rattle.archive_theorem.specs.Headline.{IsOwn, HasOwnPorts, ClientsHead
 ghost use Rattle.archive_theorem.specs.Durable.{HoldsPromised};
 ghost use Rattle.archive_theorem.specs.Traces.{trace_steps};
 ghost use Rattle.archive_theorem.specs.Samples.{sample_file};
-ghost use Rattle.archive_running.specs.Archive.{ArchiveRun, world_of, Mirrors, WritesFinished, CanReach, CanRestart};
+ghost use Rattle.archive_running.specs.Archive.{ArchiveRun, world_of, Mirrors, WritesFinished, CanReach, CanRestart, CanEnd};
 ghost use Rattle.archive_running.specs.Starts.{StartsFrom, StartsWith, Follows, FetchesEarlier, CanStart};
 ghost use Rattle.archive_running.specs.Calls.{Moment, IsReached, ServesAt, world_at, ManyHappen, after_turn, after_round, DalliesHappen, ClientAt, PutHappens, GetHappens, PutInRoundsHappens, GetInRoundsHappens, PutWasTaken, GetWasWritten, PutCanHappen};
 
@@ -29,6 +29,7 @@ ghost use Rattle.archive_running.specs.Calls.{Moment, IsReached, ServesAt, world
 /// collections at first, which are the best over some texts, such as those of its folder: any two readable texts of a
 /// keeper. So the headline holds for it, for each client whose ports are its own: the file of a put that returned Ok
 /// was taken exactly once, and what a get that returned Ok has written is the collection at one of its own requests.
+/// A run goes on through each restart, also where the server ended because it could not know whether it had kept a file.
 /// Openings of the world are the requests that opened a transfer, and strays are datagrams that arrived although no
 /// wire was given them to send.
 pub fn running_law()
@@ -48,6 +49,8 @@ pub fn running_law()
     ensures fetches { CanReach (λ c. (file : List ℕ) × (file_or_client c ≡ Ok file)) }
     // In rounds, and through a restart, a file with a solution is taken and fetched.
     ensures restarts { CanRestart (sample_file 100) }
+    // A keep of which the server does not know whether it took effect did so.
+    ensures ends { CanEnd (sample_file 100) }
 {}
 
 /// Whole calls are such moves. The turns or rounds that the contract of `serve_turns` or `serve_rounds` lists lead from
