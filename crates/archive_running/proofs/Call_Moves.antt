@@ -24,7 +24,7 @@ use Rattle.archive_theorem.proofs.Owning.{one_operation, same_put, same_get}
 use Rattle.archive_model.proofs.Endpoints.{exact_endpoint, same_endpoint}
 use Rattle.archive_theorem.proofs.Keyed.{lookup-written}
 use Rattle.archive_running.specs.Members.{does, visit_members, late_members}
-use Rattle.archive_running.specs.Archive.{Archive, Brings, after_server, own_endpoint, after_begin, after_client_turn, Moves, server_turns, server_rounds, server_restarts, client_begins, client_rounds, client_turns, Reaches, ArchiveRun}
+use Rattle.archive_running.specs.Archive.{Archive, Brings, after_server, own_endpoint, after_begin, after_client_turn, Moves, server_turns, server_rounds, server_restarts, server_ends, client_begins, client_rounds, client_turns, Reaches, ArchiveRun}
 use Rattle.archive_running.specs.Archive as archive
 use Rattle.archive_running.specs.Calls.{Moment, IsReached, ServesAt, world_at, Meanwhile, still, others, LeavesServer, AfterTurnOrRound, after_turn, after_round, ManyHappen, LeavesClient, RunMembers, turn_members, paced_members, RunStepHappens, RunsHappen, DalliesHappen, ClientAt, begun_at, PutHappens, GetHappens, PutInRoundsHappens, GetInRoundsHappens, PutWasTaken, GetWasWritten}
 use Rattle.archive_running.proofs.Run_Moves.{run-mirrors, run-sent, run-fetched}
@@ -41,6 +41,7 @@ home-stays : {a b : Archive} {added : List Member} → Moves a b added → b.hom
 home-stays (server_turns a last timers per_host new took calls now t brings) = refl
 home-stays (server_rounds a last timers per_host new took calls now t brings) = refl
 home-stays (server_restarts a maps now loaded) = refl
+home-stays (server_ends a mode port from bytes timers left new took calls now later p t maps came refused wanted brings finds) = refl
 home-stays (client_begins a host operation port replies r away is) = refl
 home-stays (client_turns a host old new calls t away is brings) = refl
 home-stays (client_rounds a host pace old new calls t away is brings) = refl
@@ -65,6 +66,7 @@ begun-stays : {a b : Archive} {added : List Member} → Moves a b added → (x :
 begun-stays (server_turns a last timers per_host new took calls now t brings) x has = has
 begun-stays (server_rounds a last timers per_host new took calls now t brings) x has = has
 begun-stays (server_restarts a maps now loaded) x has = has
+begun-stays (server_ends a mode port from bytes timers left new took calls now later p t maps came refused wanted brings finds) x has = has
 begun-stays (client_begins a host operation port replies r away is) x has = Has-prefix a.begun _ x (IsPrefix-push a.begun _) has
 begun-stays (client_turns a host old new calls t away is brings) x has = has
 begun-stays (client_rounds a host pace old new calls t away is brings) x has = has

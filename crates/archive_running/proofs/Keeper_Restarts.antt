@@ -5,7 +5,7 @@ use Rattle.tftp_packet.specs.Decode.{decode_bytes}
 use Rattle.tftp_ends.specs.Ends.{Verdict}
 use Rattle.tws_file.specs.declared.«ruleset».Ruleset.TheVariants.{Lynx, Ms}
 use Rattle.tws_best.specs.Best.{Collected, IsCollected}
-use Rattle.archive_table.specs.Table.{Table, Maps, Taken, TableAnswer, Grant, all, no_memory, unkept, transfer_at, table_datagram}
+use Rattle.archive_table.specs.Table.{Table, Maps, Taken, IsMerged, TableAnswer, Grant, all, no_memory, unkept, transfer_at, table_datagram}
 use Rattle.archive_table.specs.Keeper.{Keeping, IsLoaded, KeepsOne, KeepsMaps, FailsKeepOf, StepKeeps}
 use Rattle.archive_server.specs.Turn.{Answers, Asks, is_usable, request_used, request_spared, request_admitted, request_received, received_asks, transfer_received, KeepsAsked, Walk, walk_on, next_visit, next_asks, IsTurnIn}
 use Rattle.archive_wire.specs.Wire.{Replies, Receipt, datagram, nothing, fault, Entry}
@@ -17,7 +17,7 @@ use Rattle.archive_server.specs.declared.timer.Timer.{Timer}
 use Rattle.archive_model.specs.Restarts.{AreAlike, LoadsAs, HaveOwnRuleset}
 use Rattle.archive_theorem.proofs.Loading.{step-loads_as, loads-as}
 use Rattle.archive_theorem.proofs.Remaining.{decoded_leaves, timeout_leaves, found_takes}
-use Rattle.archive_running.specs.Archive.{LoadsKept}
+use Rattle.archive_running.specs.Archive.{LoadsKept, LoadsWith}
 
 -- what a keeper with a log has is loaded as these collections
 abbrev pub KeptIn : Option (List Keeping) → Maps → Type 0
@@ -177,3 +177,16 @@ restart-same (Some log) (Some reported) old new loads has =
     let kept = alike-kept log reported old loads.0 has in
     let same = loads-as reported old kept new.lynx new.ms loads.1 loads.2 in
     (both_are new old same.0 same.1, kept)
+
+-- where a keep had its effect though the server could not know it, what is loaded has the file
+pub restart-with : (file : List ℕ) (before now : Option (List Keeping)) (old new : Maps) → LoadsWith file before now old new → KeptIn before old →
+    ((maps : Maps) → IsMerged file old maps → HaveTexts maps) → IsMerged file old new × KeptIn now new
+restart-with file None now old new loads has texts = (loads.1, subst (λ (o : Option (List Keeping)). KeptIn o new) (sym loads.0) tt)
+restart-with file (Some log) None old new loads has texts = absurd loads
+restart-with file (Some log) (Some reported) old new (maps, mid, merged, keeps, alike, from_lynx, from_ms) has texts =
+    let t = texts maps merged in
+    let mid_has = step-loads_as all None old maps log mid keeps (inl refl) t.rules t.lynx t.ms has in
+    let kept = alike-kept mid reported maps alike mid_has in
+    let same = loads-as reported maps kept new.lynx new.ms from_lynx from_ms in
+    let is : new ≡ maps = both_are new maps same.0 same.1 in
+    (subst (IsMerged file old) (sym is) merged, subst (LoadsAs reported) (sym is) kept)

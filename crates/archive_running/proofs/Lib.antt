@@ -2,11 +2,15 @@ pub mod Member_Fits
 pub mod Server_Ports
 pub mod Client_Ends
 pub mod World_Shows
+pub mod Server_Ends
 pub mod Member_Makes
 pub mod Server_Visits
 pub mod Keeper_Restarts
+pub mod Keeper_Unknown
 pub mod Run_Moves
 pub mod Sample_Turns
 pub mod Call_Moves
 pub mod Sample_Rounds
+pub mod Sample_Unknown
 pub mod Start_Chain
+pub mod Sample_Starts

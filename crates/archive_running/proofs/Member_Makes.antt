@@ -8,23 +8,24 @@ use Rattle.std.proofs.lemmas.Slice.Eq.{bytes_eq-Decides}
 use Rattle.tftp_packet.specs.declared.endpoint.Endpoint.{Endpoint}
 use Rattle.tftp_packet.specs.Decode.{decode_bytes}
 use Rattle.tftp_ends.specs.Ends.{Verdict, granted, refused}
-use Rattle.archive_table.specs.Table.{Table, Maps, Grant, Taken, TableAnswer, Merges, IsMerged, memory_verdict, is_same, transfer_at, table_request, table_datagram, table_timeout, empty_maps}
+use Rattle.archive_table.specs.Table.{Table, Maps, Grant, Taken, Transfer, TableAnswer, Merges, IsMerged, all, unkept, memory_verdict, is_same, transfer_at, datagram_at, table_request, table_datagram, table_timeout, empty_maps}
 use Rattle.archive_table.specs.Keeper.{Keeping}
 use Rattle.archive_client.specs.Client.{Operation, Client, client_datagram, client_timeout, is_too_long}
 use Rattle.archive_client.specs.Client as client
-use Rattle.archive_model.specs.World.{Datagram, World, has_begun, asked_of, taken_with, after_request, after_transfer, after_client, client_receives, client_waits, begins, restarts, strays_in, AllMayHappen, MayDeliver, IsFree}
-use Rattle.archive_theorem.specs.Traces.{Member, server_waits_long, client_waits_long, starts, loads, is_same_datagram, position_after, position_of, named_in, server_comes, comes, after_deed, delivery, steps_with, member_steps, trace_from, DeedMerged}
+use Rattle.archive_model.specs.World.{Datagram, World, has_begun, asked_of, taken_with, after_request, after_transfer, after_client, client_receives, client_waits, begins, restarts, strays_in, wanted_at, wanted_of, ends, ends_if, unknown_keep, AllMayHappen, MayDeliver, MayEnd, IsFree}
+use Rattle.archive_theorem.specs.Traces.{Member, server_waits_long, client_waits_long, starts, loads, is_same_datagram, position_after, position_of, named_in, server_comes, comes, after_deed, at_place, delivery, steps_with, member_steps, trace_from, DeedMerged}
 use Rattle.archive_model.proofs.Places.{Has, at-last}
 use Rattle.archive_model.proofs.Endpoints.{same_endpoint}
 use Rattle.archive_theorem.proofs.Remaining.{timeout_leaves, decoded_leaves}
 use Rattle.archive_theorem.proofs.Totality.{not_more, one_last}
 use Rattle.archive_theorem.proofs.Tracing.{found_at}
-use Rattle.archive_running.specs.Members.{arrival, grant_for, reception, does}
+use Rattle.archive_running.specs.Members.{arrival, grant_for, reception, does, end_member}
 use Rattle.archive_running.specs.Archive.{Archive, IsStrangers, after_restart}
 use Rattle.archive_running.proofs.Member_Fits.{AllFit}
 use Rattle.archive_running.proofs.Server_Ports.{request-apart, datagram-apart, timeout-apart}
+use Rattle.archive_running.proofs.Server_Ends.{Completes, refused_at}
 use Rattle.archive_running.proofs.Client_Ends.{datagram-ends, timeout-ends}
-use Rattle.archive_running.proofs.World_Shows.{Shows, outs, with_answer, with_client, shows-named, shows-served, shows-restart, shows-client, shows-begin, with_begun}
+use Rattle.archive_running.proofs.World_Shows.{Shows, outs, with_answer, with_client, with_end, shows-named, shows-ended, shows-served, shows-restart, shows-client, shows-begin, with_begun}
 use Rattle.archive_model.proofs.Entries.{strays_fits}
 
 -- these members may happen, and then the world has what this archive has
@@ -214,6 +215,59 @@ module _ (a : Archive) (w : World) (h : Shows a w) where
         one_made _ m after is (may_handle transfer_d 0 grant maps brought (λ to. absurd (not_request to)) position refl)
         (deed_merged m after is transfer_x.step.taken (taken_more position) merges)
         (shows-served a transfer_v shown transfer_x (datagram-apart port a.server h.apart grant maps from bytes) transfer_x.step.taken _)
+
+  -- a datagram with which the server ends, as it cannot know whether its file was kept
+  module _ (port : ℕ) (from : Endpoint) (bytes : List ℕ) (t : Taken) (maps : Maps) (tr : Transfer) (there : transfer_at port a.server ≡ Some tr)
+      (other : port ≢ a.server.request) (c : Completes tr port from bytes t) where
+    -- the datagram
+    abbrev end_d : Datagram
+    end_d = arrival a.home.host port from bytes
+
+    -- in a world with this server it completes the file
+    end_wants : (v : World) → Shows a v → wanted_of (a.home.host == v.home.host) end_d v ≡ Some t
+    end_wants v shown =
+        ap (λ (ours : Bool). wanted_of ours end_d v) (eq-eqb a.home.host v.home.host (ap (λ (e : Endpoint). e.host) (sym shown.home)))
+        ∙ ap (λ (s : Table). wanted_at (port == s.request) end_d (record v { server = s })) shown.server
+        ∙ ap (λ (b : Bool). wanted_at b end_d (record v { server = a.server })) (ne_eqb port a.server.request other)
+        ∙ ap (λ (o : Option Transfer). (datagram_at o all a.server.maps port from bytes a.server).step.taken) there
+        ∙ c.takes a.server.maps a.server
+
+    -- and the answer is that it is not kept
+    end_answers : (v : World) → Shows a v → (table_datagram unkept maps port from bytes v.server).step.out ≡ (refused_at port tr a.server).step.out
+    end_answers v shown =
+        ap (λ (s : Table). (table_datagram unkept maps port from bytes s).step.out) shown.server
+        ∙ ap (λ (o : Option Transfer). (datagram_at o unkept maps port from bytes a.server).step.out) there
+        ∙ ap (λ (x : TableAnswer). x.step.out) (c.refuses maps a.server)
+
+    end_may : IsBrought end_d a → (position : Option ℕ) → position_of end_d w.net ≡ position →
+        AllMayHappen (steps_with all maps (at_place position end_d (λ index. unknown_keep index true) w.net)) w
+    end_may brought (Some n) is =
+        (record { datagram = end_d; is = found_at end_d w.net n is; file = t; completes = end_wants w h }, tt)
+    end_may brought None is =
+        let stranger = strangers end_d is brought in
+        let unbegun : has_begun end_d.source w.begun ≡ false = h.known end_d.source ∙ ap is_some stranger.unbegun in
+        let away = elsewhere end_d.source stranger.away in
+        let entered = strays_fits w end_d away unbegun in
+        let then : MayEnd (length w.net) (strays_in end_d w) = record {
+          datagram = end_d;
+          is = at-last w.net end_d;
+          file = t;
+          completes = end_wants (strays_in end_d w) (shows-named None end_d a w h);
+        } in
+        ((away, unbegun), (subst (λ (v : World). MayEnd (length w.net) v) (sym entered) then, tt))
+
+    pub ends-makes : IsBrought end_d a → IsMerged t.file a.server.maps maps →
+        Makes (with_end t maps (outs a.home.host (refused_at port tr a.server).step.out) a) (end_member end_d maps ∷ []) w
+    ends-makes brought merged =
+        let position = position_of end_d w.net in
+        let m = end_member end_d maps in
+        let v = named_in position end_d w in
+        let shown = shows-named position end_d a w h in
+        let after = ends true t maps end_d v in
+        let is : after_deed m.deed m.grant m.maps w ≡ after = ap (λ (o : Option Taken). ends_if o true maps end_d v) (end_wants v shown) in
+        one_made _ m after is (end_may brought position refl)
+        (deed_merged m after is (Some t) (ap (λ (ts : List Taken). ts ++ t ∷ []) (named_taken position end_d)) merged)
+        (shows-ended a v shown t maps end_d (refused_at port tr a.server).step.out (end_answers v shown))
 
   -- a time-out of a port of the server
   pub timeout-makes : (port : ℕ) →

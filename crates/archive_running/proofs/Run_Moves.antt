@@ -6,7 +6,7 @@ use Rattle.std.proofs.lemmas.Map.Steps.{set_value_same}
 use Rattle.tftp_packet.specs.declared.endpoint.Endpoint.{Endpoint}
 use Rattle.tftp_ends.specs.Ends.{Verdict}
 use Rattle.tws_file.specs.declared.«ruleset».Ruleset.TheVariants.{Lynx, Ms}
-use Rattle.archive_table.specs.Table.{Table, Maps, is_same}
+use Rattle.archive_table.specs.Table.{Table, Maps, Taken, at_port, is_same, IsMerged}
 use Rattle.archive_table.specs.Keeper.{Keeping}
 use Rattle.archive_client.specs.declared.state.State.{State}
 use Rattle.archive_client.specs.declared.state.State.TheVariants as state
@@ -20,16 +20,20 @@ use Rattle.archive_model.specs.World.{Datagram, World, Origin, empty_origin, fir
 use Rattle.archive_theorem.specs.Headline.{IsOwn, HasOwnPorts, ClientsHeadline, Headline, SentOnce, IsFinishedGet}
 use Rattle.archive_theorem.specs.Traces.{Member, starts, loads, trace_from, trace_steps, TraceFrom}
 use Rattle.archive_model.proofs.Places.{Has-contains, Has-from_contains}
-use Rattle.archive_theorem.proofs.Invariant.{AreBest, first-best}
+use Rattle.archive_theorem.proofs.Invariant.{AreBest, Holds, exact_port, first-best}
+use Rattle.archive_theorem.proofs.Keyed as keyed
+use Rattle.archive_theorem.proofs.Merging.{best-taken}
+use Rattle.archive_theorem.proofs.Happening.{last-holds}
 use Rattle.archive_theorem.proofs.Collecting.{best-collected, run_from-best}
 use Rattle.archive_theorem.proofs.Persisting.{own-ruleset}
 use Rattle.archive_theorem.proofs.Tracing.{trace-makes, trace_merged, trace-clients, trace-headline}
 use Rattle.archive_running.specs.Members.{sent_in_calls, come_to, does, received_members, quiet_members, client_members, arrived_members, goes_members, round_members}
-use Rattle.archive_running.specs.Archive.{Archive, idle, IsStrangers, Brings, own_endpoint, after_begin, after_client_turn, after_restart, LoadsKept, Moves, server_turns, server_rounds, server_restarts, client_begins, client_turns, client_rounds, Reaches, reported, unreported, more, ArchiveRun, world_of, Mirrors, WritesFinished}
+use Rattle.archive_running.specs.Archive.{Archive, idle, IsStrangers, Brings, own_endpoint, after_begin, after_client_turn, after_restart, after_end, LoadsKept, LoadsWith, Moves, server_turns, server_rounds, server_restarts, server_ends, client_begins, client_turns, client_rounds, Reaches, reported, unreported, more, ArchiveRun, world_of, Mirrors, WritesFinished}
 use Rattle.archive_running.proofs.Member_Fits.{all-may, all-merged}
 use Rattle.archive_running.proofs.World_Shows.{Shows, with_client, shows-mirrors}
 use Rattle.archive_running.proofs.Member_Makes.{Makes, IsBrought, begin-makes, client-makes, waits-makes, restart-makes}
-use Rattle.archive_running.proofs.Keeper_Restarts.{KeptIn, HaveTexts, turn-kept, restart-same}
+use Rattle.archive_running.proofs.Keeper_Restarts.{KeptIn, HaveTexts, turn-kept, restart-same, restart-with}
+use Rattle.archive_running.proofs.Keeper_Unknown.{end-makes}
 use Rattle.archive_running.proofs.Server_Visits.{Brought, makes-then, sent-sendings, turn-makes, round-makes}
 
 -- ---- a turn of a client
@@ -160,6 +164,15 @@ put_sent state.Sent len n e = refl
 put_sent state.Got len n e = absurd cc
 put_sent (state.Failed why) len n e = absurd cc
 
+-- collections that are the best over files can be written as texts
+texts_over : (taken : List Taken) (maps : Maps) → AreBest taken maps → HaveTexts maps
+texts_over taken maps best =
+    record {
+      rules = own-ruleset taken maps best;
+      lynx = best-collected Lynx _ maps.lynx best.lynx;
+      ms = best-collected Ms _ maps.ms best.ms;
+    }
+
 -- ---- from the server of an origin
 
 module _ (o : Origin) where
@@ -188,13 +201,7 @@ module _ (o : Origin) where
 
   -- so each can be written as a text of its own ruleset
   texts_of : (a : Archive) (members : List Member) → Makes a members first → HaveTexts a.server.maps
-  texts_of a members makes =
-      let best = are_best a members makes in
-      record {
-        rules = own-ruleset (trace_from members first).taken a.server.maps best;
-        lynx = best-collected Lynx _ a.server.maps.lynx best.lynx;
-        ms = best-collected Ms _ a.server.maps.ms best.ms;
-      }
+  texts_of a members makes = texts_over (trace_from members first).taken a.server.maps (are_best a members makes)
 
   -- a move of the server
   served : (a b : Archive) (members added : List Member) → Made a members → Makes b added (trace_from members first) →
@@ -223,6 +230,25 @@ module _ (o : Origin) where
       record { makes = makes-then _ members _ a first before.makes makes; kept = same.1 } in
       subst (λ (m : Maps). Made (after_restart m now a) (members ++ does loads ∷ [])) (sym same.0) whole
 
+  -- the world keeps the transfers of its server apart
+  holds_of : (a : Archive) (members : List Member) → Makes a members first → Holds (trace_from members first)
+  holds_of a members makes =
+      let steps = trace_steps members first in
+      subst Holds (trace-makes members first (all-may members first makes.fit))
+      (last-holds o (record { steps = steps; merged = steps_merged a members makes }))
+
+  -- an end in a keep, which the next start finds
+  ended : (a : Archive) (members : List Member) (t : Taken) (maps : Maps) (calls : List Entry) (later : Option (List Keeping)) (added : List Member) →
+      LoadsWith t.file a.kept later a.server.maps maps → Made a members →
+      (IsMerged t.file a.server.maps maps → Makes (after_end t maps calls later a) added (trace_from members first)) →
+      Made (after_end t maps calls later a) (members ++ added)
+  ended a members t maps calls later added finds before makes =
+      let best = are_best a members before.makes in
+      let texts : (m : Maps) → IsMerged t.file a.server.maps m → HaveTexts m =
+      λ m merged. texts_over _ m (best-taken (trace_from members first).taken t a.server.maps m best merged) in
+      let has = restart-with t.file a.kept later a.server.maps maps finds before.kept texts in
+      record { makes = makes-then _ members added a first before.makes (makes has.0); kept = has.1 }
+
   -- any move
   moved : {a b : Archive} {members added : List Member} → Made a members → Moves a b added → Made b (members ++ added)
   moved {members} before (server_turns a last timers per_host new took calls now t brings) =
@@ -234,6 +260,13 @@ module _ (o : Origin) where
       (round-makes a (trace_from members first) last timers per_host new took calls now t before.makes.shows (by_places a.home.host calls a brings))
       (λ texts. turn-kept _ _ a.server new.table _ _ took _ a.kept now t.visits texts before.kept)
   moved {members} before (server_restarts a maps now has) = restarted a members maps now has before
+  moved {members} before (server_ends a mode port from bytes timers left new took calls now later p t maps came refused wanted brings finds) =
+      let w = trace_from members first in
+      let h = holds_of a members before.makes in
+      let apart = subst (λ (s : Table). keyed.IsApart at_port exact_port s.live) before.makes.shows.server h.apart in
+      ended a members t maps calls later _ finds before
+      (end-makes a w before.makes.shows apart mode port from bytes timers left new took calls now p t maps came refused wanted
+      (by_places a.home.host calls a brings) later)
   moved {members} before (client_begins a host operation port replies r away is) =
       asked a _ members _ before refl refl
       (begin_made a (trace_from members first) before.makes.shows host operation replies r away port is)

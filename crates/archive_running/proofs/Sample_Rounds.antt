@@ -41,20 +41,20 @@ before a = server_in 0 [] 32 a
 abbrev mode : Mode
 mode = Round 0 None 32
 
-abbrev visited : (port : ℕ) → Archive → Answers → Visited
+abbrev pub visited : (port : ℕ) → Archive → Answers → Visited
 visited port a answers = next_visit (ready_next (Some port) a.server) answers a.server
 
-abbrev ended : (port : ℕ) → Archive → Answers → Walk
+abbrev pub ended : (port : ℕ) → Archive → Answers → Walk
 ended port a answers = walk_after mode (visited port a answers) [] []
 
-abbrev after : (port : ℕ) → Archive → Answers → Server
+abbrev pub after : (port : ℕ) → Archive → Answers → Server
 after port a answers =
     record { table = (ended port a answers).server; last = noted_or 0 (Some port); timers = (ended port a answers).timers; per_host = 32 }
 
-abbrev calls_of : (port : ℕ) → Archive → Answers → List Entry
+abbrev pub calls_of : (port : ℕ) → Archive → Answers → List Entry
 calls_of port a answers = waited 0 (earliest []) (Some port) 0 None ∷ ((visited port a answers).calls ++ (ended port a answers).calls)
 
-abbrev a_round : (port : ℕ) (a : Archive) (answers : Answers) (now : Option (List Keeping)) →
+abbrev pub a_round : (port : ℕ) (a : Archive) (answers : Answers) (now : Option (List Keeping)) →
     Merges (visited port a answers).taken a.server.maps (visited port a answers).server.maps →
     KeepsAsked (next_asks (ready_next (Some port) a.server) answers a.server) a.server.maps (visited port a answers).server.maps a.kept now →
     [] ≡ late_ports mode (is_quiet (visited port a answers).change) (timers_after mode (visited port a answers).change []) (visited port a answers).server →
@@ -72,19 +72,19 @@ a_round port a answers now merges keeps late let_in =
       per_host = refl;
     }
 
-abbrev rounded : (port : ℕ) → Archive → Answers → (now : Option (List Keeping)) → Archive
+abbrev pub rounded : (port : ℕ) → Archive → Answers → (now : Option (List Keeping)) → Archive
 rounded port a answers now =
     after_server (after port a answers).table (visited port a answers).taken (calls_of port a answers) now a
 
-abbrev round_members : (port : ℕ) → Archive → Answers → List Member
+abbrev pub round_members : (port : ℕ) → Archive → Answers → List Member
 round_members port a answers = visit_members a.home.host (ready_next (Some port) a.server) answers a.server ++ late_members []
 
 -- ---- both ends
 
-abbrev client : (host : ℕ) → Endpoint
+abbrev pub client : (host : ℕ) → Endpoint
 client host = record { host = host; port = 5000 }
 
-abbrev port_of : (port : ℕ) → Endpoint
+abbrev pub port_of : (port : ℕ) → Endpoint
 port_of port = record { host = server_endpoint.host; port = port }
 
 abbrev receives_from : Endpoint → (spare : ℕ) → List ℕ → Answers
@@ -102,22 +102,22 @@ receives_from from spare bytes =
 abbrev answered : (port : ℕ) → List ℕ → RunAnswers
 answered port bytes = record { receipt = datagram (port_of port) bytes; verdict = granted; sent = true }
 
-abbrev asking : Operation → Run
+abbrev pub asking : Operation → Run
 asking operation =
     record { client = client_start 5000 server_endpoint operation; port = 5000; left = QUIET_TURNS }
 
-abbrev begun : (host : ℕ) → Operation → Archive → Archive
+abbrev pub begun : (host : ℕ) → Operation → Archive → Archive
 begun host operation a =
     after_begin host operation (asking operation)
     (begin_opened (Some 5000) a.home operation (record { sent = true; closed = true })).calls a
 
-abbrev request : (host spare : ℕ) → Operation → Answers
+abbrev pub request : (host spare : ℕ) → Operation → Answers
 request host spare operation = receives_from (client host) spare (request_out operation (asking operation).client).dgram
 
-abbrev client_turned : (host : ℕ) → Run → RunAnswers → Archive → Archive
+abbrev pub client_turned : (host : ℕ) → Run → RunAnswers → Archive → Archive
 client_turned host r answers a = after_client_turn host r (run_turn answers r).run (run_turn answers r).calls a
 
-begins : (host : ℕ) (operation : Operation) (a : Archive) → host ≢ a.home.host →
+pub begins : (host : ℕ) (operation : Operation) (a : Archive) → host ≢ a.home.host →
     (begin_opened (Some 5000) a.home operation (record { sent = true; closed = true })).result ≡ Ok (asking operation) →
     Moves a (begun host operation a) (does (starts (client host) operation) ∷ [])
 begins host operation a away is =
@@ -125,40 +125,40 @@ begins host operation a away is =
 
 -- ---- the put
 
-abbrev hundred : Operation
+abbrev pub hundred : Operation
 hundred = put (sample_file 100)
 
-abbrev nothing_kept : Option (List Keeping)
+abbrev pub nothing_kept : Option (List Keeping)
 nothing_kept = Some []
 
-abbrev kept : Option (List Keeping)
+abbrev pub kept : Option (List Keeping)
 kept = Some (keeping Lynx (sample_file 100) true ∷ [])
 
-abbrev first : Archive
+abbrev pub first : Archive
 first = begun 2 hundred (idle from_nothing nothing_kept)
 
-abbrev opened : Archive
+abbrev pub opened : Archive
 opened = rounded 6969 first (request 2 4000 hundred) nothing_kept
 
-abbrev first_ack : RunAnswers
+abbrev pub first_ack : RunAnswers
 first_ack = answered 4000 (encode (ack 0))
 
-abbrev bound : Archive
+abbrev pub bound : Archive
 bound = client_turned 2 (asking hundred) first_ack opened
 
-abbrev block : Answers
+abbrev pub block : Answers
 block = receives_from (client 2) 0 (encode (data_block 1 (sample_file 100)))
 
 abbrev taken : Archive
 taken = rounded 4000 bound block kept
 
-abbrev sending : Run
+abbrev pub sending : Run
 sending = (run_turn first_ack (asking hundred)).run
 
 abbrev last_ack : RunAnswers
 last_ack = answered 4000 (encode (ack 1))
 
-abbrev acked : Archive
+abbrev pub acked : Archive
 acked = client_turned 2 sending last_ack taken
 
 opens_put : Moves first opened (round_members 6969 first (request 2 4000 hundred))
@@ -176,7 +176,7 @@ binds_put =
     client_turns opened 2 (asking hundred) sending calls (record { answers = first_ack; run = refl; calls_are = refl }) (λ e. cc) refl
     (brings_at 2 calls opened _ 1 refl refl)
 
-changes : (sample_maps 100).lynx ≢ empty_maps.lynx
+pub changes : (sample_maps 100).lynx ≢ empty_maps.lynx
 changes e = let entries : (sample_maps 100).lynx.entries ≡ [] = ap (λ (c : Collected). c.entries) e in absurd cc
 
 takes : Moves bound taken (round_members 4000 bound block)
@@ -194,10 +194,25 @@ ends_put =
     (record { answers = last_ack; run = refl; calls_are = refl }) (λ e. cc) refl
     (brings_at 2 calls taken _ 3 refl refl)
 
-abbrev put_members : List Member
+abbrev pub put_members : List Member
 put_members =
     [] ++ (does (starts (client 2) hundred) ∷ []) ++ round_members 6969 first (request 2 4000 hundred) ++ client_members first_ack 2 (asking hundred)
     ++ round_members 4000 bound block ++ client_members last_ack 2 sending
+
+-- until the block is sent
+abbrev pub bound_members : List Member
+bound_members =
+    [] ++ (does (starts (client 2) hundred) ∷ []) ++ round_members 6969 first (request 2 4000 hundred) ++ client_members first_ack 2 (asking hundred)
+
+pub bound-reaches : Reaches from_nothing bound bound_members
+unfolding encode decode_bytes block_of
+bound-reaches =
+    let begins_put = begins 2 hundred (idle from_nothing nothing_kept) (λ e. cc) refl in
+    more (more (more (reported [] none-loads) begins_put) opens_put) binds_put
+
+pub put-reaches : Reaches from_nothing acked put_members
+unfolding encode decode_bytes block_of
+put-reaches = more (more bound-reaches takes) ends_put
 
 -- ---- the put as a whole call
 
@@ -210,7 +225,7 @@ first_calls = (run_turn first_ack (asking hundred)).calls
 abbrev last_calls : List Entry
 last_calls = (run_turn last_ack sending).calls
 
-abbrev over : Run
+abbrev pub over : Run
 over = (run_turn last_ack sending).run
 
 same_some : {A : Type 0} (x y : A) → Some x ≡ Some y → y ≡ x
@@ -321,7 +336,7 @@ restarts = server_restarts acked (sample_maps 100) kept loaded
 
 -- ---- the get
 
-abbrev lynx : Operation
+abbrev pub lynx : Operation
 lynx = get Lynx
 
 abbrev second : Archive
@@ -358,11 +373,8 @@ all_members =
 reaches : Reaches from_nothing fetched all_members
 unfolding encode decode_bytes block_of
 reaches =
-    let begins_put = begins 2 hundred (idle from_nothing nothing_kept) (λ e. cc) refl in
     let get_begins = begins 3 lynx restarted (λ e. cc) refl in
-    more (more
-    (more (more (more (more (more (more (more (reported [] none-loads) begins_put) opens_put) binds_put) takes) ends_put) restarts) get_begins)
-    opens_get) gets
+    more (more (more (more put-reaches restarts) get_begins) opens_get) gets
 
 abbrev whole_run : ArchiveRun from_nothing
 whole_run = record { archive = fetched; members = all_members; reaches = reaches }
@@ -373,7 +385,7 @@ own = own-by (world_of whole_run) refl refl refl
 
 -- each of its moves is a round, or not the server's
 by_rounds : IsByRounds reaches
-unfolding encode decode_bytes block_of reaches begins opens_put binds_put takes ends_put restarts opens_get gets
+unfolding encode decode_bytes block_of reaches put-reaches bound-reaches begins opens_put binds_put takes ends_put restarts opens_get gets
 by_rounds = (((((((((tt, tt), tt), tt), tt), tt), tt), tt), tt), tt)
 
 pub serves-on : CanRestart (sample_file 100)

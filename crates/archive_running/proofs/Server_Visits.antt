@@ -22,7 +22,7 @@ use Rattle.archive_running.specs.Members.{arrival, sent_in, come_in, sent_in_cal
 use Rattle.archive_running.specs.Archive.{Archive, after_server, server_in}
 use Rattle.archive_running.proofs.Member_Fits.{fit-append, trace-append}
 use Rattle.archive_running.proofs.Server_Ports.{IsApart, above-apart}
-use Rattle.archive_running.proofs.World_Shows.{Shows, outs, with_answer}
+use Rattle.archive_running.proofs.World_Shows.{Shows, outs, sent-calls, with_answer}
 use Rattle.archive_running.proofs.Member_Makes.{Makes, IsBrought, request-makes, transfer-makes, timeout-makes}
 
 -- ---- members one after another
@@ -36,7 +36,7 @@ makes-then c ms ns b w first next =
     }
 
 -- nothing is sent, taken or changed
-shows-still : (a : Archive) (w : World) → Shows a w → Shows (with_answer a.server None [] a) w
+pub shows-still : (a : Archive) (w : World) → Shows a w → Shows (with_answer a.server None [] a) w
 shows-still a w h =
     record {
       home = h.home;
@@ -53,14 +53,6 @@ shows-still a w h =
     }
 
 -- ---- what calls send and receive
-
--- the calls after a step send the datagram of the step and no other
-sent-calls : (host : ℕ) (closes : Bool) (port : ℕ) (out : Option Out) (replies : Replies) →
-    sent_in_calls host (step_calls closes port out replies) ≡ outs host out
-sent-calls host true port None replies = refl
-sent-calls host true port (Some out) replies = refl
-sent-calls host false port None replies = refl
-sent-calls host false port (Some out) replies = refl
 
 -- the call that sends a datagram sends that
 pub sent-sendings : (host : ℕ) (out : Option Out) (ok : Bool) → sent_in_calls host (sendings out ok) ≡ outs host out
@@ -79,7 +71,7 @@ abbrev pub Brought : (host : ℕ) → List Entry → Archive → Type 0
 Brought host calls a = (d : Datagram) → Has (come_to host calls) d → IsBrought d a
 
 -- what the first of the calls bring is among what all bring
-brought-first : (host : ℕ) (before after : List Entry) (a : Archive) → Brought host (before ++ after) a → Brought host before a
+pub brought-first : (host : ℕ) (before after : List Entry) (a : Archive) → Brought host (before ++ after) a → Brought host before a
 brought-first host before after a brought d has =
     brought d (Has-prefix (come_to host before) (come_to host (before ++ after)) d
     (record { rest = come_to host after; is = flat_map-append (come_in host) before after }) has)
@@ -181,7 +173,7 @@ module _ (a : Archive) (w : World) (h : Shows a w) where
 -- ---- time-outs
 
 -- time-outs, port by port
-walk_made : (late : List (ℕ × Replies)) (due : ℕ) (k : Walk) (a : Archive) (w : World) → Shows (after_server k.server None k.calls a.kept a) w →
+pub walk_made : (late : List (ℕ × Replies)) (due : ℕ) (k : Walk) (a : Archive) (w : World) → Shows (after_server k.server None k.calls a.kept a) w →
     let end = fold (walk_on due) k late in
     Makes (after_server end.server None end.calls a.kept a) (late_members late) w
 walk_made [] due k a w h = record { fit = tt; shows = h }

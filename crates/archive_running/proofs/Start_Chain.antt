@@ -1,10 +1,10 @@
 -- What a run has promised holds in every run that begins with what it has left.
-use Rattle.std.proofs.Common.{◌≡◌, ℕ, ◌≤◌, ◌+◌, ◌-◌, List, [], ◌∷◌, ◌++◌, map, take, length, Contains, Some, refl, ap, sym, ◌∙◌, subst, arith}
+use Rattle.std.proofs.Common.{◌≡◌, ℕ, ◌≤◌, ◌+◌, ◌-◌, List, [], ◌∷◌, ◌++◌, map, take, length, Contains, Some, refl, ap, sym, ◌∙◌, subst, inl, inr, arith, append-nil}
 use Rattle.std.proofs.lemmas.List.{map-append, length-map}
 use Rattle.std.proofs.Math.Seq.{take-append-add}
 use Rattle.tftp_packet.specs.declared.endpoint.Endpoint.{Endpoint}
-use Rattle.archive_table.specs.Table.{Table, Taken}
-use Rattle.archive_table.specs.Keeper.{Keeping}
+use Rattle.archive_table.specs.Table.{Maps, Table, Taken, IsMerged, all}
+use Rattle.archive_table.specs.Keeper.{Keeping, KeepsMaps}
 use Rattle.archive_model.specs.World.{Begun, Got, World, WorldStep, Origin, AreOver, given, first_world, run_from, IsPrefix}
 use Rattle.archive_model.specs.Restarts.{AreAlike, LoadsAs}
 use Rattle.archive_theorem.specs.Headline.{IsOwn, IsFinishedGet, files_of}
@@ -17,8 +17,13 @@ use Rattle.archive_theorem.proofs.Happening.{last-holds}
 use Rattle.archive_theorem.proofs.Counting.{began-by}
 use Rattle.archive_theorem.proofs.Enduring.{holds-promised}
 use Rattle.archive_theorem.proofs.Tracing.{trace-makes}
+use Rattle.archive_theorem.proofs.Merging.{best-taken}
+use Rattle.archive_theorem.proofs.Collecting.{best-collected}
+use Rattle.archive_theorem.proofs.Persisting.{own-ruleset}
+use Rattle.archive_theorem.proofs.Loading.{step-loads_as}
+use Rattle.tws_file.specs.declared.«ruleset».Ruleset.TheVariants.{Lynx, Ms}
 use Rattle.archive_running.specs.Archive.{ArchiveRun, world_of}
-use Rattle.archive_running.specs.Starts.{StartsFrom, Follows, at_once, later, FetchesAll, FetchesEarlier}
+use Rattle.archive_running.specs.Starts.{StartsFrom, StartsWith, Starts, Follows, at_once, later, FetchesAll, FetchesEarlier}
 use Rattle.archive_running.proofs.Run_Moves.{run-mirrors, run-happens, run-merged, run-clients, run-kept}
 use Rattle.archive_running.proofs.Keeper_Restarts.{KeptIn, alike-kept}
 
@@ -68,8 +73,8 @@ module _ (o : Origin) (r : ArchiveRun o) where
       subst (λ (l : List (List ℕ)). IsPrefix l (files_of r.archive.taken)) (texts_again o.home o.texts) taken
 
   -- the server's collections are the best over the files taken
-  run_best : AreOver (files_of r.archive.taken) r.archive.server.maps
-  run_best =
+  pub run-best : AreOver (files_of r.archive.taken) r.archive.server.maps
+  run-best =
       let best = subst (λ (s : Table). AreBest (world_of r).taken s.maps) (run-mirrors o r).server run_holds.best in
       subst (λ (ts : List Taken). AreBest ts r.archive.server.maps) (run-mirrors o r).taken best
 
@@ -106,15 +111,38 @@ module _ (o : Origin) (r : ArchiveRun o) where
   pub starts-from : (home : Endpoint) (log reported : List Keeping) → r.archive.kept ≡ Some log → AreAlike log reported →
       (next : Origin) × (next.home ≡ home) × StartsFrom r next × LoadsAs reported next.maps
   starts-from home log reported kept alike =
-      let next : Origin = record { home = home; texts = files_of r.archive.taken; maps = r.archive.server.maps; over = run_best } in
+      let next : Origin = record { home = home; texts = files_of r.archive.taken; maps = r.archive.server.maps; over = run-best } in
       let has : LoadsAs log r.archive.server.maps = subst (λ k. KeptIn k r.archive.server.maps) kept (run-kept o r) in
       (next, refl, record { texts = refl; maps = refl }, alike-kept log reported r.archive.server.maps alike has)
 
+  -- so is there one with a file more, if that was kept, and its collections are loaded
+  pub starts-with : (home : Endpoint) (file : List ℕ) (maps : Maps) (log mid reported : List Keeping) → r.archive.kept ≡ Some log →
+      IsMerged file r.archive.server.maps maps → KeepsMaps r.archive.server.maps maps (Some log) (Some mid) → AreAlike mid reported →
+      (next : Origin) × (next.home ≡ home) × (next.maps ≡ maps) × StartsWith r next × LoadsAs reported next.maps
+  starts-with home file maps log mid reported kept merged keeps alike =
+      let t : Taken = given home file in
+      let best = best-taken r.archive.taken t r.archive.server.maps maps run-best merged in
+      let files : files_of (r.archive.taken ++ t ∷ []) ≡ files_of r.archive.taken ++ file ∷ [] =
+      map-append (λ (u : Taken). u.file) r.archive.taken (t ∷ []) in
+      let over : AreOver (files_of r.archive.taken ++ file ∷ []) maps = subst (λ (l : List (List ℕ)). AreOver l maps) files best in
+      let next : Origin = record { home = home; texts = files_of r.archive.taken ++ file ∷ []; maps = maps; over = over } in
+      let has : LoadsAs log r.archive.server.maps = subst (λ k. KeptIn k r.archive.server.maps) kept (run-kept o r) in
+      let now : LoadsAs mid maps =
+      step-loads_as all (Some t) r.archive.server.maps maps log mid keeps (inl refl) (own-ruleset (r.archive.taken ++ t ∷ []) maps best)
+      (best-collected Lynx _ maps.lynx best.lynx) (best-collected Ms _ maps.ms best.ms) has in
+      (next, refl, refl, record { file = file; texts = refl; merged = merged }, alike-kept mid reported maps alike now)
+
 -- ---- a chain
 
--- the files of a later start begin with those of this run
-first_files : {o p : Origin} (r : ArchiveRun o) → StartsFrom r p → (files : List (List ℕ)) → IsPrefix p.texts files → IsPrefix (files_of r.archive.taken) files
-first_files r starts files more = subst (λ (l : List (List ℕ)). IsPrefix l files) starts.texts more
+-- a start begins with the files of the run
+start_files : {o p : Origin} (r : ArchiveRun o) → Starts r p → IsPrefix (files_of r.archive.taken) p.texts
+start_files r (inl starts) = record { rest = []; is = starts.texts ∙ sym (append-nil (files_of r.archive.taken)) }
+start_files r (inr starts) = record { rest = starts.file ∷ []; is = starts.texts }
+
+-- and so do the files of a run from there
+first_files : {o p : Origin} (r : ArchiveRun o) → Starts r p → (files : List (List ℕ)) → IsPrefix p.texts files →
+    IsPrefix (files_of r.archive.taken) files
+first_files r starts files more = IsPrefix-on (start_files r starts) more
 
 -- so the files of each later run do
 pub follows-files : {o p : Origin} {r : ArchiveRun o} {s : ArchiveRun p} → Follows o r p s → IsPrefix (files_of r.archive.taken) (files_of s.archive.taken)
@@ -148,5 +176,5 @@ follows-promised {o} {p} {r} {s} follows =
     let first : files_of w.taken ≡ files_of r.archive.taken = ap files_of (run-mirrors o r).taken in
     let all : files_of taken ≡ files_of s.archive.taken =
     files_more w.taken p.home files.rest ∙ ap (λ (l : List (List ℕ)). l ++ files.rest) first ∙ sym files.is in
-    let best : AreBest taken s.archive.server.maps = subst (λ (l : List (List ℕ)). AreOver l s.archive.server.maps) (sym all) (run_best p s) in
+    let best : AreBest taken s.archive.server.maps = subst (λ (l : List (List ℕ)). AreOver l s.archive.server.maps) (sym all) (run-best p s) in
     holds-promised w (run_holds o r) taken s.archive.server.maps (record { rest = map (given p.home) files.rest; is = refl }) best

@@ -7,18 +7,21 @@ use Rattle.std.proofs.lemmas.Map.{keys-set_value}
 use Rattle.std.proofs.lemmas.Map.Made.{is_some-lookup}
 use Rattle.tftp_packet.specs.declared.endpoint.Endpoint.{Endpoint}
 use Rattle.tftp_packet.specs.declared.out.Out.{Out}
-use Rattle.archive_table.specs.Table.{Table, Taken, is_same}
+use Rattle.archive_table.specs.Table.{Table, Maps, Taken, unkept, is_same, table_datagram}
 use Rattle.archive_table.specs.Keeper.{Keeping}
 use Rattle.archive_table.specs.Table as table
 use Rattle.archive_client.specs.declared.state.State.TheVariants as state
 use Rattle.archive_client.specs.Client.{Operation, Client, request_out, client_start, state_of, phase_file, file_or, file_or_client}
 use Rattle.archive_client.specs.Client as client
-use Rattle.archive_model.specs.World.{Datagram, Begun, Opening, Got, World, has_begun, datagram_of, net_with, taken_with, sent_with, got_with, newly_sent, newly_got, after_client, begins, restarts}
+use Rattle.archive_server.specs.Turn.{step_calls}
+use Rattle.archive_wire.specs.Wire.{Replies}
+use Rattle.archive_model.specs.World.{Datagram, Begun, Opening, Got, World, has_begun, datagram_of, net_with, taken_with, sent_with, got_with, newly_sent, newly_got, after_client, begins, ends, restarts}
 use Rattle.archive_theorem.specs.Traces.{named_in}
 use Rattle.archive_model.proofs.Places.{Has, Has-contains, Has-from_contains, Has-prefix, IsPrefix-push, Has-last, Has-push, either}
 use Rattle.archive_theorem.proofs.Keyed.{lookup-set}
 use Rattle.archive_model.proofs.Endpoints.{exact_endpoint}
 use Rattle.archive_theorem.proofs.ServerMoves.{served}
+use Rattle.archive_running.specs.Members.{sent_in_calls}
 use Rattle.archive_running.specs.Archive.{Archive, Mirrors, after_restart}
 use Rattle.archive_running.proofs.Server_Ports.{IsApart}
 use Rattle.archive_running.proofs.Client_Ends.{Ends}
@@ -91,6 +94,14 @@ shows-named None d a w h =
 abbrev pub outs : (host : ℕ) → Option Out → List Datagram
 outs host None = []
 outs host (Some out) = datagram_of host out ∷ []
+
+-- the calls after a step send the datagram of the step and no other
+pub sent-calls : (host : ℕ) (closes : Bool) (port : ℕ) (out : Option Out) (replies : Replies) →
+    sent_in_calls host (step_calls closes port out replies) ≡ outs host out
+sent-calls host true port None replies = refl
+sent-calls host true port (Some out) replies = refl
+sent-calls host false port None replies = refl
+sent-calls host false port (Some out) replies = refl
 
 -- what was in the network stays there when one more is sent
 pushed : (old net : List Datagram) (x d : Datagram) → (Has old d → Has net d) → Has old d ⊎ (d ≡ x) → Has (net ++ x ∷ []) d
@@ -172,6 +183,63 @@ shows-restart kept a w h =
       got = h.got;
       known = h.known;
       apart = All-nil (λ p. p ≢ a.server.request);
+    }
+
+-- the archive after its server has ended with this file, and has started again
+abbrev pub with_end : Taken → Maps → List Datagram → Archive → Archive
+with_end t maps sent a =
+    record {
+      home = a.home;
+      server = record { request = a.server.request; maps = maps; live = [] };
+      clients = a.clients;
+      begun = a.begun;
+      taken = a.taken ++ t ∷ [];
+      net = a.net ++ sent;
+      kept = a.kept;
+    }
+
+-- after that, where this is what it has sent
+pub shows-ended : (a : Archive) (w : World) → Shows a w → (t : Taken) (maps : Maps) (d : Datagram) (out : Option Out) →
+    (table_datagram unkept maps d.target.port d.source d.bytes w.server).step.out ≡ out →
+    Shows (with_end t maps (outs a.home.host out) a) (ends true t maps d w)
+shows-ended a w h t maps d out is =
+    let sent = (table_datagram unkept maps d.target.port d.source d.bytes w.server).step.out in
+    let Sends : Endpoint → Option Out → Datagram → Type 0 = λ e o x. Has (a.net ++ outs e.host o) x in
+    record {
+      home = h.home;
+      server = ap (λ (s : Table). record { request = s.request; maps = maps; live = [] }) h.server;
+      clients = h.clients;
+      begun = h.begun;
+      taken = ap (λ (ts : List Taken). ts ++ t ∷ []) h.taken;
+      net = λ x has.
+          has_out w.home.host sent a.net w.net h.net x
+          (subst (λ (o : Option Out). Sends w.home o x) (sym is) (subst (λ (e : Endpoint). Sends e out x) (sym h.home) has));
+      others = λ x has.
+          subst (λ (e : Endpoint). Sends e out x ⊎ Has w.strays x) h.home
+          (subst (λ (o : Option Out). Sends w.home o x ⊎ Has w.strays x) is
+          (other_out w.home.host sent a.net w.net w.strays h.others x has));
+      sent = h.sent;
+      got = h.got;
+      known = h.known;
+      apart = All-nil (λ p. p ≢ a.server.request);
+    }
+
+-- an archive whose network is in another order, and whose keeper has another list
+pub shows-permuted : (a : Archive) (w : World) (net : List Datagram) (kept : Option (List Keeping)) → ((d : Datagram) → Has net d → Has a.net d) →
+    ((d : Datagram) → Has a.net d → Has net d) → Shows a w → Shows (record a { net = net; kept = kept }) w
+shows-permuted a w net kept into back h =
+    record {
+      home = h.home;
+      server = h.server;
+      clients = h.clients;
+      begun = h.begun;
+      taken = h.taken;
+      net = λ d has. h.net d (into d has);
+      others = λ d has. either (back d) (λ stray. stray) (h.others d has);
+      sent = h.sent;
+      got = h.got;
+      known = h.known;
+      apart = h.apart;
     }
 
 -- ---- a client

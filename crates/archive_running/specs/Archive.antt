@@ -5,14 +5,17 @@ use Rattle.std.specs.Prelude.{◌≡◌, ◌≢◌, ◌⊎◌, ℕ, Bool, List, 
 use Rattle.std.specs.Map.{lookup, set_value}
 use Rattle.std.specs.Io.KnownBytes.{Appends}
 use Rattle.tftp_packet.specs.declared.endpoint.Endpoint.{Endpoint}
+use Rattle.tftp_packet.specs.declared.cause.Cause.TheVariants.{Refused}
 use Rattle.tws_file.specs.declared.«ruleset».Ruleset.TheVariants.{Lynx, Ms}
-use Rattle.archive_table.specs.Table.{Table, Maps, Taken, is_same}
-use Rattle.archive_table.specs.Keeper.{Keeping, LoadedFrom}
+use Rattle.archive_table.specs.Table.{Table, Maps, Taken, all, unkept, is_same, table_datagram, IsMerged}
+use Rattle.archive_table.specs.Keeper.{Keeping, LoadedFrom, KeepsMaps}
 use Rattle.archive_client.specs.declared.state.State.TheVariants as state
 use Rattle.archive_client.specs.Client.{Client, Operation, state_of, file_or_client}
-use Rattle.archive_wire.specs.Wire.{Entry, Replies}
+use Rattle.archive_wire.specs.Wire.{Entry, Replies, datagram}
 use Rattle.archive_server.specs.declared.timer.Timer.{Timer}
-use Rattle.archive_server.specs.Turn.{Server, IsTurn, IsRound, next_visit, turn_next, ready_next}
+use Rattle.archive_server.specs.declared.mode.Mode.{Mode}
+use Rattle.archive_server.specs.declared.next.Next.TheVariants.{Transfer}
+use Rattle.archive_server.specs.Turn.{Server, IsTurnIn, IsTurn, IsRound, next_visit, turn_next, ready_next}
 use Rattle.archive_runs.specs.Run.{Run, begin_opened, IsRunTurn}
 use Rattle.archive_runs.specs.declared.pace.Pace.{Pace}
 use Rattle.archive_runs.specs.Rounds.{IsRunRound}
@@ -20,7 +23,7 @@ use Rattle.archive_model.specs.World.{Datagram, Begun, World, Origin, first_worl
 use Rattle.archive_theorem.specs.Headline.{HasOwnPorts, IsFinishedGet}
 use Rattle.archive_model.specs.Restarts.{LoadsAs, AreAlike}
 use Rattle.archive_theorem.specs.Traces.{starts, loads, Member, trace_from}
-use Rattle.archive_running.specs.Members.{sent_in_calls, come_to, does, visit_members, late_members, client_members, round_members}
+use Rattle.archive_running.specs.Members.{arrival, sent_in_calls, come_to, does, others_of, end_member, visit_members, late_members, client_members, round_members}
 
 -- ---- what runs
 
@@ -116,6 +119,19 @@ after_restart maps kept a =
       kept = kept;
     }
 
+-- after a turn or round in which the server could not know whether it has kept this file, which it has, and the next start
+abbrev pub after_end : Taken → Maps → (calls : List Entry) → (kept : Option (List Keeping)) → Archive → Archive
+after_end t maps calls kept a =
+    record {
+      home = a.home;
+      server = record { request = a.server.request; maps = maps; live = [] };
+      clients = a.clients;
+      begun = a.begun;
+      taken = a.taken ++ t ∷ [];
+      net = a.net ++ sent_in_calls a.home.host calls;
+      kept = kept;
+    }
+
 -- What a restart loads: what the keeper has. This may be a new keeper, which has the same for each ruleset. For a
 -- keeper without a log it is a premise that it has the current collections.
 abbrev pub LoadsKept : (before now : Option (List Keeping)) → (old new : Maps) → Type 0
@@ -123,6 +139,14 @@ LoadsKept None now old new = (now ≡ None) × (new ≡ old)
 LoadsKept (Some log) None old new = ⊥
 LoadsKept (Some log) (Some reported) old new =
     AreAlike log reported × LoadedFrom Lynx (Some reported) new.lynx × LoadedFrom Ms (Some reported) new.ms
+
+-- The same where a keep of this file had its effect though the server could not know it: what is loaded has the file.
+abbrev pub LoadsWith : (file : List ℕ) → (before now : Option (List Keeping)) → (old new : Maps) → Type 0
+LoadsWith file None now old new = (now ≡ None) × IsMerged file old new
+LoadsWith file (Some log) None old new = ⊥
+LoadsWith file (Some log) (Some reported) old new =
+    (maps : Maps) × (mid : List Keeping) × IsMerged file old maps × KeepsMaps old maps (Some log) (Some mid) × AreAlike mid reported
+    × LoadedFrom Lynx (Some reported) new.lynx × LoadedFrom Ms (Some reported) new.ms
 
 -- ---- how it moves
 
@@ -147,6 +171,16 @@ pub data Moves : (old new : Archive) → List Member → Type 0 where
       (visit_members a.home.host (ready_next t.ready a.server) t.visits.answers a.server ++ late_members t.visits.late)
   server_restarts : (a : Archive) (maps : Maps) (now : Option (List Keeping)) → LoadsKept a.kept now a.server.maps maps →
       Moves a (after_restart maps now a) (does loads ∷ [])
+  -- The server makes a turn or round in which it is not told whether a file was kept, answers that it was not, and ends; but it
+  -- was, and the next start finds it. If it was not, that is a turn or round, and then a restart.
+  server_ends : (a : Archive) (mode : Mode) (port : ℕ) (from : Endpoint) (bytes : List ℕ) (timers left : List Timer) (new : Table) (took : Bool)
+      (calls : List Entry) (now later : Option (List Keeping))
+      (p : IsTurnIn mode (Transfer port) a.server new timers left took calls a.kept now) (t : Taken) (maps : Maps) →
+      p.answers.receipt ≡ datagram from bytes → p.answers.grant ≡ unkept →
+      (table_datagram all a.server.maps port from bytes a.server).step.taken ≡ Some t → Brings a.home.host calls a →
+      LoadsWith t.file a.kept later a.server.maps maps →
+      Moves a (after_end t maps calls later a)
+      (late_members (others_of port p.late) ++ end_member (arrival a.home.host port from bytes) maps ∷ [])
   -- an operation begins on another host than the server's
   client_begins : (a : Archive) (host : ℕ) (operation : Operation) (port : Option ℕ) (replies : Replies) (r : Run) →
       host ≢ a.home.host → (begin_opened port a.home operation replies).result ≡ Ok r →
@@ -217,6 +251,7 @@ abbrev pub IsNoTurn : {old new : Archive} {added : List Member} → Moves old ne
 IsNoTurn (server_turns a last timers per_host new took calls now t brings) = ⊥
 IsNoTurn (server_rounds a last timers per_host new took calls now t brings) = Unit {0}
 IsNoTurn (server_restarts a maps now loaded) = Unit {0}
+IsNoTurn (server_ends a mode port from bytes timers left new took calls now later p t maps came refused wanted brings finds) = ⊥
 IsNoTurn (client_begins a host operation port replies r away begun) = Unit {0}
 IsNoTurn (client_turns a host old new calls t away there brings) = Unit {0}
 IsNoTurn (client_rounds a host pace old new calls t away there brings) = Unit {0}
@@ -236,5 +271,20 @@ pub record CanRestart (file : List ℕ) : Type 0 where
   pub putter : Endpoint
   pub sent : (c : Client) × (lookup (is_same putter) run.archive.clients ≡ Some c) × (state_of c ≡ state.Sent)
   pub taken : run.archive.taken ≡ record { peer = putter; file = file } ∷ []
+  pub getter : Endpoint
+  pub got : (c : Client) × (lookup (is_same getter) run.archive.clients ≡ Some c) × (file_or_client c ≡ Ok file)
+
+-- An archive that has nothing at first can end in a keep of this file, answer its put that it was not kept, and find it at the
+-- next start; a get then has fetched it.
+pub record CanEnd (file : List ℕ) : Type 0 where
+  pub run : ArchiveRun (empty_origin server_endpoint)
+  pub datagram : Datagram
+  pub maps : Maps
+  pub ends : Contains run.members (end_member datagram maps)
+  pub own : HasOwnPorts (world_of run)
+  pub putter : Endpoint
+  pub refused : (c : Client) × (code : ℕ) × (lookup (is_same putter) run.archive.clients ≡ Some c) × (state_of c ≡ state.Failed (Refused code))
+  pub taken : run.archive.taken ≡ record { peer = putter; file = file } ∷ []
+  pub recovered : (world_of run).recovered ≡ run.archive.taken
   pub getter : Endpoint
   pub got : (c : Client) × (lookup (is_same getter) run.archive.clients ≡ Some c) × (file_or_client c ≡ Ok file)

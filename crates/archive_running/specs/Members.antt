@@ -1,6 +1,6 @@
 -- What the turns of archive_server and archive_runs are in the world of archive_model: a datagram that is received and not
 -- dropped is a `receives`, and a time-out is a `client_waits_long` or a `server_waits_long`.
-use Rattle.std.specs.Prelude.{ℕ, Bool, true, false, nat_le, List, [], ◌∷◌, map, flat_map, Option, None, Some}
+use Rattle.std.specs.Prelude.{ℕ, Bool, true, false, ◌==◌, not, nat_le, List, [], ◌∷◌, map, filter, flat_map, Option, None, Some}
 use Rattle.tftp_packet.specs.declared.endpoint.Endpoint.{Endpoint}
 use Rattle.tftp_ends.specs.Ends.{Verdict, granted, refused}
 use Rattle.archive_table.specs.Table.{Table, Maps, Grant, all, no_memory, empty_maps}
@@ -12,7 +12,7 @@ use Rattle.archive_runs.specs.Run.{Run, RunAnswers}
 use Rattle.archive_runs.specs.declared.pace.Pace.{Pace}
 use Rattle.archive_runs.specs.Rounds.{RoundAnswers, is_late, is_ready}
 use Rattle.archive_model.specs.World.{Datagram, datagram_of}
-use Rattle.archive_theorem.specs.Traces.{Deed, receives, client_waits_long, server_waits_long, Member}
+use Rattle.archive_theorem.specs.Traces.{Deed, receives, client_waits_long, server_waits_long, ends_in_keep, Member}
 
 -- ---- what calls of a wire on this host send and receive
 
@@ -92,6 +92,16 @@ visit_members host next.Nowhere a s = []
 -- the time-outs after a visit
 abbrev pub late_members : List (ℕ × Replies) → List Member
 late_members late = map (λ e. does (server_waits_long e.0)) late
+
+-- ---- a keep whose outcome is unknown
+
+-- the time-outs of other ports than this one
+abbrev pub others_of : (port : ℕ) → List (ℕ × Replies) → List (ℕ × Replies)
+others_of port late = filter (λ e. not (e.0 == port)) late
+
+-- With this datagram the server ends, and the next start finds these collections.
+abbrev pub end_member : Datagram → Maps → Member
+end_member d maps = record { deed = ends_in_keep d true; grant = all; maps = maps }
 
 -- ---- a turn of a client
 

@@ -1,13 +1,13 @@
 //! What holds for the running archive. This function does nothing: its contract is a theorem.
 
 ghost use Rattle.std.specs.Prelude.{◌≡◌, ◌≢◌, ℕ, List, Option, Some, Result, Ok};
-ghost use Rattle.archive_table.specs.Table.{is_same};
+ghost use Rattle.archive_table.specs.Table.{Maps, IsMerged, is_same};
 ghost use Rattle.std.specs.Map.{lookup};
 ghost use Rattle.tftp_packet.specs.declared.endpoint.Endpoint.{Endpoint};
 ghost use Rattle.archive_client.specs.Client.{Client, state_of, file_or_client};
 ghost use Rattle.archive_client.specs.declared.state.State.TheVariants.{Sent};
 ghost use Rattle.tws_file.specs.declared.«ruleset».Ruleset.{Ruleset};
-ghost use Rattle.archive_table.specs.Keeper.{Keeping};
+ghost use Rattle.archive_table.specs.Keeper.{Keeping, KeepsMaps};
 ghost use Rattle.archive_runs.specs.declared.run_fault.RunFault.{RunFault};
 ghost use Rattle.archive_wire.specs.Wire.{Entry};
 ghost use Rattle.archive_server.specs.Turn.{Server, IsTurn, IsRound, MakesTurns, MakesRounds};
@@ -19,8 +19,8 @@ ghost use Rattle.archive_theorem.specs.Headline.{IsOwn, HasOwnPorts, ClientsHead
 ghost use Rattle.archive_theorem.specs.Durable.{HoldsPromised};
 ghost use Rattle.archive_theorem.specs.Traces.{trace_steps};
 ghost use Rattle.archive_theorem.specs.Samples.{sample_file};
-ghost use Rattle.archive_running.specs.Archive.{ArchiveRun, world_of, Mirrors, WritesFinished, CanReach, CanRestart};
-ghost use Rattle.archive_running.specs.Starts.{StartsFrom, Follows, FetchesEarlier};
+ghost use Rattle.archive_running.specs.Archive.{ArchiveRun, world_of, Mirrors, WritesFinished, CanReach, CanRestart, CanEnd};
+ghost use Rattle.archive_running.specs.Starts.{StartsFrom, StartsWith, Follows, FetchesEarlier, CanStart};
 ghost use Rattle.archive_running.specs.Calls.{Moment, IsReached, ServesAt, world_at, ManyHappen, after_turn, after_round, DalliesHappen, ClientAt, PutHappens, GetHappens, PutInRoundsHappens, GetInRoundsHappens, PutWasTaken, GetWasWritten, PutCanHappen};
 
 /// Every run of a server and its clients, made of turns and rounds as archive_server and archive_runs define them, in
@@ -29,6 +29,7 @@ ghost use Rattle.archive_running.specs.Calls.{Moment, IsReached, ServesAt, world
 /// collections at first, which are the best over some texts, such as those of its folder: any two readable texts of a
 /// keeper. So the headline holds for it, for each client whose ports are its own: the file of a put that returned Ok
 /// was taken exactly once, and what a get that returned Ok has written is the collection at one of its own requests.
+/// A run goes on through each restart, also where the server ended because it could not know whether it had kept a file.
 /// Openings of the world are the requests that opened a transfer, and strays are datagrams that arrived although no
 /// wire was given them to send.
 pub fn running_law()
@@ -48,6 +49,8 @@ pub fn running_law()
     ensures fetches { CanReach (λ c. (file : List ℕ) × (file_or_client c ≡ Ok file)) }
     // In rounds, and through a restart, a file with a solution is taken and fetched.
     ensures restarts { CanRestart (sample_file 100) }
+    // A keep of which the server does not know whether it took effect did so.
+    ensures ends { CanEnd (sample_file 100) }
 {}
 
 /// Whole calls are such moves. The turns or rounds that the contract of `serve_turns` or `serve_rounds` lists lead from
@@ -97,7 +100,14 @@ pub fn calls_law()
 pub fn starts_law()
     ensures begins { (o : Origin) (r : ArchiveRun o) (home : Endpoint) (log reported : List Keeping) → r.archive.kept ≡ Some log → AreAlike log reported →
         (next : Origin) × (next.home ≡ home) × StartsFrom r next × LoadsAs reported next.maps }
+    // If the server ended in a keep, or after one whose outcome it could not know, the collection may be there all the same.
+    ensures begins_with { (o : Origin) (r : ArchiveRun o) (home : Endpoint) (file : List ℕ) (maps : Maps) (log mid reported : List Keeping) →
+        r.archive.kept ≡ Some log → IsMerged file r.archive.server.maps maps → KeepsMaps r.archive.server.maps maps (Some log) (Some mid) →
+        AreAlike mid reported →
+        (next : Origin) × (next.home ≡ home) × (next.maps ≡ maps) × StartsWith r next × LoadsAs reported next.maps }
     ensures files { (o p : Origin) (r : ArchiveRun o) (s : ArchiveRun p) → Follows o r p s → IsPrefix (files_of r.archive.taken) (files_of s.archive.taken) }
     ensures promised { (o p : Origin) (r : ArchiveRun o) (s : ArchiveRun p) → Follows o r p s → HoldsPromised (world_of r) s.archive.server.maps }
     ensures fetched { (o p : Origin) (r : ArchiveRun o) (s : ArchiveRun p) → Follows o r p s → FetchesEarlier r s }
+    // A file with a solution is put in one run, and fetched after a start on another host.
+    ensures starts { CanStart (sample_file 100) }
 {}

@@ -1,6 +1,7 @@
 use Rattle.archive_running.proofs.Run_Moves.{run-mirrors, run-happens, run-merged, run-clients, run-headline, run-sent, run-fetched}
 use Rattle.archive_running.proofs.Sample_Turns.{sends, fetches}
 use Rattle.archive_running.proofs.Sample_Rounds.{serves-on}
+use Rattle.archive_running.proofs.Sample_Unknown.{can-end}
 use Rattle.archive_running.proofs.laws.running_law.Goals as goal
 
 pub returns-clause-mirrors : goal.returns-clause-mirrors
@@ -32,3 +33,6 @@ returns-clause-fetches c = fetches
 
 pub returns-clause-restarts : goal.returns-clause-restarts
 returns-clause-restarts c = serves-on
+
+pub returns-clause-ends : goal.returns-clause-ends
+returns-clause-ends c = can-end
