@@ -220,8 +220,7 @@ impl<C: Clock, L: Log, H: Folder, A: Allocator + Copy> Observer for ServerLog<C,
 }
 
 /// The server's start and stop are reported, and each request that was dropped.
-impl<C: Clock, L: Log, H: Folder, A: Allocator + Copy> ServerObserver
-    for ServerLog<C, L, H, A> {
+impl<C: Clock, L: Log, H: Folder, A: Allocator + Copy> ServerObserver for ServerLog<C, L, H, A> {
     fn on_started<T: Allocator + Copy>(
         &mut self,
         at: Endpoint,
