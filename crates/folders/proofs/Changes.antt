@@ -3,8 +3,8 @@ use Rattle.std.proofs.Common.{◌≡◌, ◌≢◌, ◌⊎◌, inl, inr, ⊎_eli
 use Rattle.std.specs.Prelude.{option_and_then, reverse, ◌||◌, if◌then◌else◌}
 use Rattle.std.specs.Str.{bytes_eq}
 use Rattle.std.proofs.lemmas.Slice.Eq.{bytes_eq-Decides}
-use Rattle.folders.specs.declared.memory_folder.Change.{Change}
-use Rattle.folders.specs.declared.memory_folder.Change.TheVariants.{Synced}
+use Rattle.folders.specs.declared.memory_folder.FolderChange.{FolderChange}
+use Rattle.folders.specs.declared.memory_folder.FolderChange.TheVariants.{Synced}
 use Rattle.folders.specs.declared.memory_folder.MemoryFolder.{MemoryFolder}
 use Rattle.folders.specs.Folder.{Stays}
 use Rattle.folders.specs.Publishing.{IsWritten, Replaces}
@@ -23,18 +23,18 @@ unequal xs ys not = false_of (bytes_eq xs ys) (λ is. not ((bytes_eq-Decides xs 
     false_of false never = refl
 
 -- a change of other names leaves the file under a name
-file_other : (c : Change) (cs : List Change) (name : List ℕ) → touches name c ≡ false → file (c ∷ cs) name ≡ file cs name
+file_other : (c : FolderChange) (cs : List FolderChange) (name : List ℕ) → touches name c ≡ false → file (c ∷ cs) name ≡ file cs name
 file_other c cs name apart = ap (λ (b : Bool). option_and_then (text_at name) (cond b (Some c) (latest name cs))) apart
 
-file_same : (c : Change) (cs : List Change) (name : List ℕ) → touches name c ≡ true → file (c ∷ cs) name ≡ text_at name c
+file_same : (c : FolderChange) (cs : List FolderChange) (name : List ℕ) → touches name c ≡ true → file (c ∷ cs) name ≡ text_at name c
 file_same c cs name is = ap (λ (b : Bool). option_and_then (text_at name) (cond b (Some c) (latest name cs))) is
 
 -- the disk is as it was
-disk_other : (c : Change) (cs : List Change) → is_synced c ≡ false → disk (c ∷ cs) ≡ disk cs
+disk_other : (c : FolderChange) (cs : List FolderChange) → is_synced c ≡ false → disk (c ∷ cs) ≡ disk cs
 disk_other c cs unsynced = ap (λ (b : Bool). cond b cs (disk cs)) unsynced
 
 -- the changes of two folders in memory, as lists: under this name nothing is possible that was not
-record Kept (old new : List Change) (name : List ℕ) : Type 0 where
+record Kept (old new : List FolderChange) (name : List ℕ) : Type 0 where
   now : file new name ≡ file old name
   left : (o : Option (List ℕ)) → leaves new name o → leaves old name o
   later : length old ≤ length new
@@ -49,7 +49,7 @@ kept_stays f g name k = record {
 }
 
 -- with one more change that leaves this name
-kept_more : (c : Change) (cs : List Change) (name : List ℕ) → file (c ∷ cs) name ≡ file cs name → ((o : Option (List ℕ)) → leaves (c ∷ cs) name o → leaves cs name o) → Kept cs (c ∷ cs) name
+kept_more : (c : FolderChange) (cs : List FolderChange) (name : List ℕ) → file (c ∷ cs) name ≡ file cs name → ((o : Option (List ℕ)) → leaves (c ∷ cs) name o → leaves cs name o) → Kept cs (c ∷ cs) name
 kept_more c cs name now left = record {
   now = now;
   left = left;
@@ -61,17 +61,17 @@ kept_more c cs name now left = record {
     earlier t o (inl new) = since_now t cs name o (left o new)
     earlier t o (inr old) = old.1
 
-leaves_other : (c : Change) (cs : List Change) (name : List ℕ) → touches name c ≡ false → is_synced c ≡ false → (o : Option (List ℕ)) → leaves (c ∷ cs) name o → leaves cs name o
-leaves_other c cs name apart unsynced o (inl is) = inl (is ∙ ap (λ (ds : List Change). file ds name) (disk_other c cs unsynced))
+leaves_other : (c : FolderChange) (cs : List FolderChange) (name : List ℕ) → touches name c ≡ false → is_synced c ≡ false → (o : Option (List ℕ)) → leaves (c ∷ cs) name o → leaves cs name o
+leaves_other c cs name apart unsynced o (inl is) = inl (is ∙ ap (λ (ds : List FolderChange). file ds name) (disk_other c cs unsynced))
 leaves_other c cs name apart unsynced o (inr is) = inr (is ∙ file_other c cs name apart)
 
-leaves_synced : (cs : List Change) (name : List ℕ) (o : Option (List ℕ)) → leaves (Synced ∷ cs) name o → leaves cs name o
+leaves_synced : (cs : List FolderChange) (name : List ℕ) (o : Option (List ℕ)) → leaves (Synced ∷ cs) name o → leaves cs name o
 leaves_synced cs name o (inl is) = inr is
 leaves_synced cs name o (inr is) = inr is
 
 -- a folder with the same changes
 pub stays_as : (f g : MemoryFolder) (name : List ℕ) → g.changes.items ≡ f.changes.items → Stays memory_model f g name
-stays_as f g name is = kept_stays f g name (subst (λ (cs : List Change). Kept (newest f) cs name) (sym same) (record {
+stays_as f g name is = kept_stays f g name (subst (λ (cs : List FolderChange). Kept (newest f) cs name) (sym same) (record {
   now = refl;
   left = λ o h. h;
   later = omega arith;
@@ -82,37 +82,37 @@ stays_as f g name is = kept_stays f g name (subst (λ (cs : List Change). Kept (
     same = ap reverse is
 
 -- a name that a change does not touch, whether it was added or not
-pub stays_other : {E : Type 0} (r : Result (Unit {0}) E) (f g : MemoryFolder) (c : Change) (name : List ℕ) → OnOk r (newest g ≡ c ∷ newest f) → OnErr r (g.changes.items ≡ f.changes.items) →
+pub stays_other : {E : Type 0} (r : Result (Unit {0}) E) (f g : MemoryFolder) (c : FolderChange) (name : List ℕ) → OnOk r (newest g ≡ c ∷ newest f) → OnErr r (g.changes.items ≡ f.changes.items) →
     is_synced c ≡ false → touches name c ≡ false → Stays memory_model f g name
 stays_other (Ok done) f g c name is same unsynced apart =
-    kept_stays f g name (subst (λ (cs : List Change). Kept (newest f) cs name) (sym is)
+    kept_stays f g name (subst (λ (cs : List FolderChange). Kept (newest f) cs name) (sym is)
     (kept_more c (newest f) name (file_other c (newest f) name apart) (leaves_other c (newest f) name apart unsynced)))
 stays_other (Err e) f g c name is same unsynced apart = stays_as f g name same
 
 pub stays_synced : {E : Type 0} (r : Result (Unit {0}) E) (f g : MemoryFolder) (name : List ℕ) → OnOk r (newest g ≡ Synced ∷ newest f) → OnErr r (g.changes.items ≡ f.changes.items) →
     Stays memory_model f g name
 stays_synced (Ok done) f g name is same =
-    kept_stays f g name (subst (λ (cs : List Change). Kept (newest f) cs name) (sym is)
+    kept_stays f g name (subst (λ (cs : List FolderChange). Kept (newest f) cs name) (sym is)
     (kept_more Synced (newest f) name refl (leaves_synced (newest f) name)))
 stays_synced (Err e) f g name is same = stays_as f g name same
 
 -- the rename of a file that was written
-pub replaces_renamed : {E : Type 0} (r : Result (Unit {0}) E) (f g : MemoryFolder) (c : Change) (from to text : List ℕ) → OnOk r (newest g ≡ c ∷ newest f) → OnErr r ((other : List ℕ) → Stays memory_model f g other) →
+pub replaces_renamed : {E : Type 0} (r : Result (Unit {0}) E) (f g : MemoryFolder) (c : FolderChange) (from to text : List ℕ) → OnOk r (newest g ≡ c ∷ newest f) → OnErr r ((other : List ℕ) → Stays memory_model f g other) →
     is_synced c ≡ false → touches to c ≡ true → text_at to c ≡ file (newest f) from → IsWritten memory_model f from text → Replaces memory_model f g to text
 replaces_renamed (Ok done) f g c from to text is same unsynced renamed moved written = record {
   now = λ o h. inr (h ∙ has);
-  left = λ o h. now_left o (subst (λ (cs : List Change). leaves cs to o) is h);
-  later = subst (λ (cs : List Change). length (newest f) ≤ length cs) (sym is) (omega arith);
-  each = λ o h. ⊎_elim (λ past. inl (since_only (newest f) to o past)) (λ t. inr t) (earlier (length (newest f)) o (subst (λ (cs : List Change). since (length (newest f)) cs to o) is h));
-  before = λ t o le h. earlier t o (subst (λ (cs : List Change). since t cs to o) is h);
+  left = λ o h. now_left o (subst (λ (cs : List FolderChange). leaves cs to o) is h);
+  later = subst (λ (cs : List FolderChange). length (newest f) ≤ length cs) (sym is) (omega arith);
+  each = λ o h. ⊎_elim (λ past. inl (since_only (newest f) to o past)) (λ t. inr t) (earlier (length (newest f)) o (subst (λ (cs : List FolderChange). since (length (newest f)) cs to o) is h));
+  before = λ t o le h. earlier t o (subst (λ (cs : List FolderChange). since t cs to o) is h);
 }
   where
     has : file (newest g) to ≡ Some text
-    has = ap (λ (cs : List Change). file cs to) is ∙ file_same c (newest f) to renamed ∙ moved ∙ written.now (file (newest f) from) refl
+    has = ap (λ (cs : List FolderChange). file cs to) is ∙ file_same c (newest f) to renamed ∙ moved ∙ written.now (file (newest f) from) refl
 
     now_left : (o : Option (List ℕ)) → leaves (c ∷ newest f) to o → leaves (newest f) to o ⊎ (o ≡ Some text)
-    now_left o (inl left) = inl (inl (left ∙ ap (λ (ds : List Change). file ds to) (disk_other c (newest f) unsynced)))
-    now_left o (inr left) = inr (left ∙ sym (ap (λ (cs : List Change). file cs to) is) ∙ has)
+    now_left o (inl left) = inl (inl (left ∙ ap (λ (ds : List FolderChange). file ds to) (disk_other c (newest f) unsynced)))
+    now_left o (inr left) = inr (left ∙ sym (ap (λ (cs : List FolderChange). file cs to) is) ∙ has)
 
     earlier : (t : ℕ) (o : Option (List ℕ)) → since t (c ∷ newest f) to o → since t (newest f) to o ⊎ (o ≡ Some text)
     earlier t o (inl new) = ⊎_elim (λ was. inl (since_now t (newest f) to o was)) (λ is-text. inr is-text) (now_left o new)
@@ -126,9 +126,9 @@ stays_failed (Ok done) d f g first same = tt
 stays_failed (Err e) d f g first same = λ other. stays_then (first other) (stays_as f g other same)
 
 -- the removal of a file
-pub removed_now : {E : Type 0} (r : Result (Unit {0}) E) (f g : MemoryFolder) (c : Change) (name : List ℕ) → OnOk r (newest g ≡ c ∷ newest f) → OnErr r ((other : List ℕ) → Stays memory_model f g other) →
+pub removed_now : {E : Type 0} (r : Result (Unit {0}) E) (f g : MemoryFolder) (c : FolderChange) (name : List ℕ) → OnOk r (newest g ≡ c ∷ newest f) → OnErr r ((other : List ℕ) → Stays memory_model f g other) →
     touches name c ≡ true → text_at name c ≡ None → (read : Option (List ℕ)) → read ≡ file (newest g) name → (read ≡ file (newest f) name) ⊎ (read ≡ None)
-removed_now (Ok done) f g c name is same named none read h = inr (h ∙ ap (λ (cs : List Change). file cs name) is ∙ file_same c (newest f) name named ∙ none)
+removed_now (Ok done) f g c name is same named none read h = inr (h ∙ ap (λ (cs : List FolderChange). file cs name) is ∙ file_same c (newest f) name named ∙ none)
 removed_now (Err e) f g c name is same named none read h = inl ((same name).possible.now read h)
 
 -- what holds of each name holds of each but one

@@ -13,5 +13,5 @@ mod publishing;
 pub use contents::Contents;
 pub use faults::{CallFailed, CallFault, FolderCall, PublishFault};
 pub use folder::Folder;
-pub use memory_folder::{Change, MemoryFolder};
+pub use memory_folder::MemoryFolder;
 pub use publishing::{clear_draft, publish};

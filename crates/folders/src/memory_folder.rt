@@ -10,47 +10,41 @@ use crate::folder::Folder;
 use std::alloc::{AllocError, Allocator, Global};
 use std::io;
 
-/// What a call has done.
+// What a call has done.
 #[derive(Drop)]
-pub enum Change {
-    /// There is a file with this text under this name.
+pub(crate) enum FolderChange {
+    // There is a file with this text under this name.
     Put {
-        /// The name.
         name: String,
-        /// The text.
         text: Vec<u8>,
     },
-    /// There is none.
+    // There is none.
     Removed {
-        /// The name.
         name: String,
     },
-    /// The file with this text has another name.
+    // The file with this text has another name.
     Renamed {
-        /// The old name.
         from: String,
-        /// The new name.
         to: String,
-        /// The text.
         text: Vec<u8>,
     },
-    /// The names are on the disk.
+    // The names are on the disk.
     Synced,
 }
 
-/// A folder in memory, for tests, as the list of all changes to it. A file is there once it was synced. A crash leaves of
-/// each name what it was when the folder was synced, or what it is now. From a call on, all calls may fail, without an
-/// effect.
+/// A folder in memory, for tests, as the list of all changes to it. A file has its text once it was synced. A
+/// crash leaves of each name what it was when the folder was synced, or what it is now. From a call on, all calls may
+/// fail, without an effect.
 #[derive(Drop)]
 pub struct MemoryFolder {
     alloc: Global,
-    changes: Vec<Change>,
+    changes: Vec<FolderChange>,
     /// How many more calls do not fail.
     left: u64,
     faults: u64,
 }
 
-impl Change {
+impl FolderChange {
     ghost use Rattle.folders.specs.Memory.{touches, text_at, is_synced};
 
     // Whether it says what a name has.
@@ -58,10 +52,10 @@ impl Change {
         ensures { result ≡ touches name.now self.now }
     {
         match self {
-            Change::Put { name: put, .. } => put.as_str() == name,
-            Change::Removed { name: removed } => removed.as_str() == name,
-            Change::Renamed { from, to, .. } => from.as_str() == name || to.as_str() == name,
-            Change::Synced => false,
+            FolderChange::Put { name: put, .. } => put.as_str() == name,
+            FolderChange::Removed { name: removed } => removed.as_str() == name,
+            FolderChange::Renamed { from, to, .. } => from.as_str() == name || to.as_str() == name,
+            FolderChange::Synced => false,
         }
     }
 
@@ -70,16 +64,16 @@ impl Change {
         ensures { option_copied result ≡ text_at name.now self.now }
     {
         match self {
-            Change::Put { text, .. } => Some(text.as_slice()),
-            Change::Removed { .. } => None,
-            Change::Renamed { to, text, .. } => {
+            FolderChange::Put { text, .. } => Some(text.as_slice()),
+            FolderChange::Removed { .. } => None,
+            FolderChange::Renamed { to, text, .. } => {
                 if to.as_str() == name {
                     Some(text.as_slice())
                 } else {
                     None
                 }
             }
-            Change::Synced => None,
+            FolderChange::Synced => None,
         }
     }
 
@@ -87,12 +81,12 @@ impl Change {
     fn is_synced(&self) -> bool
         ensures { result ≡ is_synced self.now }
     {
-        matches!(self, Change::Synced)
+        matches!(self, FolderChange::Synced)
     }
 }
 
 // The last change of a name.
-fn latest_of<'a>(changes: &'a [Change], name: &str) -> Option<&'a Change>
+fn latest_of<'a>(changes: &'a [FolderChange], name: &str) -> Option<&'a FolderChange>
     ensures { option_copied result ≡ latest name.now (reverse changes.now) }
 {
     changes.iter().rev().find(|change| change.is_of(name))
@@ -165,7 +159,7 @@ impl MemoryFolder {
         if are_names_lost {
             after.lose_names();
         }
-        after.changes.push(Change::Synced)?;
+        after.changes.push(FolderChange::Synced)?;
         Ok(after)
     }
 
@@ -197,7 +191,7 @@ impl MemoryFolder {
     }
 
     // Adds a change. On error there is none.
-    fn add(&mut self, change: Change) -> Result<(), CallFault>
+    fn add(&mut self, change: FolderChange) -> Result<(), CallFault>
         ensures ok { OnOk result (newest self.new ≡ change ∷ newest self.old) }
         ensures err { OnErr result (self.new.changes.items ≡ self.old.changes.items) }
         ensures more { self.old.faults ≤ self.new.faults }
@@ -210,11 +204,11 @@ impl MemoryFolder {
     }
 
     // Counts a call, and adds what it does.
-    fn change(&mut self, change: Change) -> Result<(), CallFault>
+    fn change(&mut self, change: FolderChange) -> Result<(), CallFault>
         ensures ok { OnOk result (newest self.new ≡ change ∷ newest self.old) }
         ensures err { OnErr result ((other : List ℕ) → Stays memory_model self.old self.new other) }
         ensures others { is_synced change ≡ false → (other : List ℕ) → touches other change ≡ false → Stays memory_model self.old self.new other }
-        ensures synced { change ≡ Change.Synced → (other : List ℕ) → Stays memory_model self.old self.new other }
+        ensures synced { change ≡ FolderChange.Synced → (other : List ℕ) → Stays memory_model self.old self.new other }
         ensures more { self.old.faults ≤ self.new.faults }
         ensures fault { OnErr result (Rises self.old.faults self.new.faults) }
     {
@@ -256,7 +250,7 @@ impl Folder for MemoryFolder {
 
     fn remove(&mut self, name: &str) -> Result<(), CallFault> {
         match String::from_str(self.alloc, name) {
-            Ok(name) => self.change(Change::Removed { name }),
+            Ok(name) => self.change(FolderChange::Removed { name }),
             Err(_) => Err(self.fail(CallFault::Memory)),
         }
     }
@@ -269,7 +263,7 @@ impl Folder for MemoryFolder {
             return Err(self.fail(CallFault::Memory));
         };
         let text = Vec::new(self.alloc);
-        self.change(Change::Put { name, text })?;
+        self.change(FolderChange::Put { name, text })?;
         Ok(Vec::new(self.alloc))
     }
 
@@ -279,7 +273,7 @@ impl Folder for MemoryFolder {
 
     fn sync(&mut self, name: &str, file: Vec<u8>) -> Result<(), CallFault> {
         match String::from_str(self.alloc, name) {
-            Ok(name) => self.change(Change::Put { name, text: file }),
+            Ok(name) => self.change(FolderChange::Put { name, text: file }),
             Err(_) => Err(self.fail(CallFault::Memory)),
         }
     }
@@ -295,11 +289,11 @@ impl Folder for MemoryFolder {
         let Ok(to) = String::from_str(self.alloc, to) else {
             return Err(self.fail(CallFault::Memory));
         };
-        self.change(Change::Renamed { from, to, text })
+        self.change(FolderChange::Renamed { from, to, text })
     }
 
     fn sync_folder(&mut self) -> Result<(), CallFault> {
-        self.change(Change::Synced)
+        self.change(FolderChange::Synced)
     }
 
     fn read<A: Allocator>(

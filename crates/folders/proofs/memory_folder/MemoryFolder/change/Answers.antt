@@ -1,5 +1,5 @@
 use Rattle.std.proofs.Common.{◌≡◌, ◌∷◌, OnOk, subst}
-use Rattle.folders.specs.declared.memory_folder.Change.{Change}
+use Rattle.folders.specs.declared.memory_folder.FolderChange.{FolderChange}
 use Rattle.folders.specs.Memory.{newest}
 use Rattle.folders.proofs.Steps.{stays_then}
 use Rattle.folders.proofs.Changes.{stays_other, stays_synced, stays_failed}
@@ -18,4 +18,4 @@ returns-clause-others c = λ unsynced other apart.
 pub returns-clause-synced : goal.returns-clause-synced
 returns-clause-synced c = λ is other.
     stays_then (c.begin.ensures.stays other) (stays_synced c.add.result c.begin.new.self c.add.new.self other
-    (subst (λ (d : Change). OnOk c.add.result (newest c.add.new.self ≡ d ∷ newest c.begin.new.self)) is c.add.ensures.ok) c.add.ensures.err)
+    (subst (λ (d : FolderChange). OnOk c.add.result (newest c.add.new.self ≡ d ∷ newest c.begin.new.self)) is c.add.ensures.ok) c.add.ensures.err)
