@@ -1,7 +1,7 @@
 -- What a page asks of one file or of two: a text of them, or why there is none.
 use Rattle.std.specs.Prelude.{◌≡◌, ◌≢◌, ℕ, List, [], ◌∷◌, ◌++◌, codes, decimal}
 use Rattle.tws_file.specs.Text.{File, IsText}
-use Rattle.tws_file.specs.Fault.{FailsWith}
+use Rattle.tws_file.specs.Fault.{HasFileFault}
 use Rattle.tws_file.specs.Words.{fault_words}
 use Rattle.tws_best.specs.Best.{Collected, IsCollectionOf, collection_text}
 use Rattle.web_answers.specs.declared.web_fault.WebFault.{WebFault}
@@ -21,8 +21,8 @@ AnswersBest first second answer = (best : Collected) × IsCollectionOf best.rule
 
 -- why there is no answer
 abbrev pub Fails : (first second : List ℕ) → WebFault → Type 0
-Fails first second (First fault) = FailsWith first fault
-Fails first second (Second fault) = FailsWith second fault
+Fails first second (First fault) = HasFileFault first fault
+Fails first second (Second fault) = HasFileFault second fault
 Fails first second Rulesets = (mine : File) × (theirs : File) × IsText first mine × IsText second theirs × (mine.ruleset ≢ theirs.ruleset)
 Fails first second Memory = Unit {0}
 

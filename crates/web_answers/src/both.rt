@@ -27,11 +27,11 @@ fn read_both<A: Allocator + Copy>(
 {
     let mine = match read_file(alloc, first) {
         Ok(file) => file,
-        Err(fault) => return Err(WebFault::First(fault)),
+        Err(fault) => return Err(WebFault::first(fault)),
     };
     let theirs = match read_file(alloc, second) {
         Ok(file) => file,
-        Err(fault) => return Err(WebFault::Second(fault)),
+        Err(fault) => return Err(WebFault::second(fault)),
     };
     if mine.ruleset != theirs.ruleset {
         return Err(WebFault::Rulesets);

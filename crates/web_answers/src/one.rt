@@ -20,7 +20,7 @@ fn read<A: Allocator + Copy>(alloc: A, bytes: &[u8]) -> Result<TwsFile<A>, WebFa
 {
     match read_file(alloc, bytes) {
         Ok(file) => Ok(file),
-        Err(fault) => Err(WebFault::First(fault)),
+        Err(fault) => Err(WebFault::first(fault)),
     }
 }
 

@@ -1,7 +1,8 @@
 //! Why there is no answer.
 
-ghost use Rattle.std.specs.Prelude.{◌≡◌, Some};
-ghost use Rattle.web_answers.specs.Answers.{words_of};
+ghost use Rattle.std.specs.Prelude.{◌≡◌, ℕ, List, Some};
+ghost use Rattle.tws_file.specs.Fault.{FailsWith};
+ghost use Rattle.web_answers.specs.Answers.{Fails, words_of};
 ghost use Rattle.web_answers.specs.declared.web_fault.WebFault.TheVariants.{Memory};
 
 use byte_output::OutFault;
@@ -20,6 +21,28 @@ pub enum WebFault {
     Rulesets,
     /// Out of memory.
     Memory,
+}
+
+impl WebFault {
+    // Why the first file was not read.
+    pub(crate) fn first(fault: FileFault) -> WebFault
+        ensures { (first second : List ℕ) → FailsWith first fault → Fails first second result }
+    {
+        if fault == FileFault::Memory {
+            return WebFault::Memory;
+        }
+        WebFault::First(fault)
+    }
+
+    // Why the second file was not read.
+    pub(crate) fn second(fault: FileFault) -> WebFault
+        ensures { (first second : List ℕ) → FailsWith second fault → Fails first second result }
+    {
+        if fault == FileFault::Memory {
+            return WebFault::Memory;
+        }
+        WebFault::Second(fault)
+    }
 }
 
 impl fmt::Display for WebFault {
