@@ -180,7 +180,7 @@ function sentShown(text) {
   if (!status) return { sent: false, words: "The web server's put.cgi gave no answer." };
   const causes = {
     0: "Sent: the archive has taken the file.",
-    1: "Not sent: put.cgi does not take this.",
+    1: said === "too long" ? "Not sent: the file is too long." : "Not sent: put.cgi does not take this.",
     2: "Not sent: put.cgi could not run it.",
     3: "Not sent: this is not a solution file.",
     4: /timed out/.test(said) ? "Not sent: the archive does not answer." : "Not sent: the archive refused it.",

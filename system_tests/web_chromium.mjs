@@ -59,8 +59,9 @@ export async function openPage(browser, url) {
     console.log(`waited for ${expression}: ${await run("document.body.innerText.slice(0, 1000)")}`);
     return false;
   };
-  const press = (text) => run(`(() => {
-    const found = [...document.querySelectorAll("button")].find((one) => one.textContent.startsWith(${JSON.stringify(text)}));
+  const press = (text, within = "main") => run(`(() => {
+    const buttons = [...document.querySelectorAll(${JSON.stringify(`${within} button`)})];
+    const found = buttons.find((one) => one.textContent.startsWith(${JSON.stringify(text)}));
     if (found) found.click();
     return Boolean(found);
   })()`);
