@@ -3,20 +3,20 @@
 
 let compiled;
 
-onmessage = async ({ data }) => {
+globalThis.onmessage = async ({ data }) => {
   if (data.module) {
     try {
       compiled = await WebAssembly.compile(data.module);
-      postMessage({ ready: true });
+      globalThis.postMessage({ ready: true });
     } catch (error) {
-      postMessage({ ready: false, why: error.message });
+      globalThis.postMessage({ ready: false, why: error.message });
     }
     return;
   }
   try {
     const answer = await callModule(compiled, data.name, data.files);
-    postMessage({ id: data.id, answer }, [answer.bytes.buffer]);
+    globalThis.postMessage({ id: data.id, answer }, [answer.bytes.buffer]);
   } catch (error) {
-    postMessage({ id: data.id, why: error.message });
+    globalThis.postMessage({ id: data.id, why: error.message });
   }
 };

@@ -16,6 +16,11 @@ const texts = (selector) => `[...document.querySelectorAll(${JSON.stringify(sele
 const said = "document.getElementById('said').textContent";
 const counts = "document.getElementById('counts').textContent";
 
+// What is looked at: a name, a width, a height, and colours.
+const LOOKS = [["wide-light", 1100, 1000, "light"], ["wide-dark", 1100, 1000, "dark"], ["narrow-light", 320, 1000, "light"],
+  ["narrow-dark", 320, 1000, "dark"], ["page", 640, 560, "light"]];
+const PICTURE_LIMIT = 60000;
+
 /** A button saves what the program makes. */
 async function saves(tab, text, name, wanted, within = "main") {
   check(`the button ${text}`, await tab.press(text, within));
@@ -37,6 +42,7 @@ async function alone() {
   check("a fault in words", (await tab.run(texts("#files .fault"))).join().includes("cut.tws: the moves end inside the move at byte 50"));
   check("names are text", (await tab.run(texts("#files h2"))).includes("hostile <b>&'.tws"));
   check("passwords are text", (await tab.run(texts("#files td"))).includes("<b>&"));
+  check("names of levels are text", (await tab.run(texts("#files td"))).includes('<i>, "seven"'));
   check("no markup comes from files", await tab.run("document.querySelectorAll('main b, main i, main script').length === 0"));
 
   await saves(tab, "Save what is better in mine", "mine-better.tws", made("compare", "--better", at("mine.tws"), at("theirs.tws")));
@@ -78,16 +84,17 @@ async function alone() {
   check("no problems", tab.problems().length === 0 || (console.log(tab.problems()), false));
 }
 
-/** Nothing is wider than the screen, whatever its width and colours. */
+/** Nothing is wider than the screen, whatever its width and colours. The pictures are for people; README shows page.png. */
 async function looks(tab) {
-  for (const width of [1100, 320]) {
-    for (const scheme of ["light", "dark"]) {
-      await tab.resize(width, scheme);
-      check(`it fits ${width} pixels`, await tab.run("document.documentElement.scrollWidth <= window.innerWidth"));
-      fs.writeFileSync(at(`${width}-${scheme}.png`), await tab.picture());
-    }
+  for (const [name, width, height, scheme] of LOOKS) {
+    await tab.resize(width, height, scheme);
+    await tab.run("window.scrollTo(0, 0)");
+    check(`it fits ${width} pixels`, await tab.run("document.documentElement.scrollWidth <= window.innerWidth"));
+    const picture = await tab.picture();
+    fs.writeFileSync(at(`${name}.png`), picture);
+    check(`the picture ${name} is small`, name !== "page" || picture.length <= PICTURE_LIMIT);
   }
-  await tab.resize(1100, "light");
+  await tab.resize(1100, 1000, "light");
 }
 
 /** The page in a folder that an archive publishes. */

@@ -71,8 +71,8 @@ export async function openPage(browser, url) {
       await send("Input.dispatchDragEvent", { type, x: 150, y: 150, data });
     }
   };
-  const resize = (width, scheme) => Promise.all([
-    send("Emulation.setDeviceMetricsOverride", { width, height: 1000, deviceScaleFactor: 1, mobile: false }),
+  const resize = (width, height, scheme) => Promise.all([
+    send("Emulation.setDeviceMetricsOverride", { width, height, deviceScaleFactor: 1, mobile: false }),
     send("Emulation.setEmulatedMedia", { features: [{ name: "prefers-color-scheme", value: scheme }] }),
   ]);
   const picture = async () => Buffer.from((await send("Page.captureScreenshot", { format: "png" })).data, "base64");

@@ -38,7 +38,9 @@ def main():
     (folder / "hostile <b>&'.tws").write_bytes(file_of(LYNX, theirs[:9]))
     (folder / "large.tws").write_bytes(file_of(MS, large))
     (folder / "cut.tws").write_bytes(pathlib.Path("examples/cut.tws").read_bytes())
-    lines = [f'{n + 1},{passwords[n].decode()},"LEVEL {n + 1}, <i>",{draw.choice([0, 300, 400])}' for n in range(LEVELS)]
+    names = [f"LEVEL {n + 1}" for n in range(LEVELS)]
+    names[6] = '"<i>, ""seven"""'
+    lines = [f"{n + 1},{passwords[n].decode()},{names[n]},{draw.choice([0, 300, 400])}" for n in range(LEVELS)]
     (folder / "levels.csv").write_text("\n".join(["number,password,name,limit", *lines]) + "\n")
 
 

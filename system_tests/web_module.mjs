@@ -7,7 +7,7 @@ import { check, finish, functionsOf, partsOf } from "./web_page.mjs";
 
 const [page, program, folder] = process.argv.slice(2);
 const parts = partsOf(page);
-const { callModule } = functionsOf(fs.readFileSync(new URL("../page/module.js", import.meta.url), "utf8"), ["callModule"]);
+const { callModule } = functionsOf(parts.worker, ["callModule"]);
 const module = await WebAssembly.compile(parts.module);
 
 const LARGE = 1000000;
