@@ -17,6 +17,7 @@ for (let i = 0; i < Number(runs); i++) {
   const done = spawnSync(command[0], command.slice(1), { maxBuffer: 1 << 30 });
   least[0] = Math.min(least[0], between - begun);
   least[1] = Math.min(least[1], performance.now() - between);
-  if (answer.status !== 0 || Buffer.compare(Buffer.from(answer.bytes), done.stdout) !== 0) throw new Error(`${name}: the outputs differ`);
+  const isSame = answer.status === 0 && Buffer.compare(Buffer.from(answer.bytes), done.stdout) === 0;
+  if (!isSame) throw new Error(`${name}: the outputs differ`);
 }
 console.log(least.map((milliseconds) => (milliseconds / 1000).toFixed(4)).join(" "));

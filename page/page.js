@@ -353,5 +353,6 @@ byId("swap").onclick = () => {
   compare();
 };
 const letters = atob(byId("module").textContent.trim());
+window.onunhandledrejection = (event) => say(`This went wrong in the page: ${event.reason}`, true);
 worker.postMessage({ module: Uint8Array.from(letters, (letter) => letter.charCodeAt(0)) });
 start();

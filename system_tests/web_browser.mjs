@@ -1,6 +1,6 @@
-// web_browser.mjs CHROMIUM PAGE PROGRAM FOLDER [URL CGI PORT]: the page in headless Chromium: files are dropped, buttons are
-// pressed, and what is saved is compared byte for byte with what the built program makes of the same files. With a URL, the
-// page is there in the folder of a server at that port, with put.cgi. The last line counts the checks.
+// web_browser.mjs CHROMIUM PAGE PROGRAM FOLDER [URL]: the page in headless Chromium: files are dropped, buttons are pressed,
+// and what is saved is compared byte for byte with what the built program makes of the same files. With a URL, the page there
+// lies beside the collections of a server and put.cgi. The last line counts the checks.
 import { spawnSync } from "node:child_process";
 import fs from "node:fs";
 import path from "node:path";
@@ -18,7 +18,7 @@ const counts = "document.getElementById('counts').textContent";
 
 // What is looked at: a name, a width, a height, and colours.
 const LOOKS = [["wide-light", 1100, 1000, "light"], ["wide-dark", 1100, 1000, "dark"], ["narrow-light", 320, 1000, "light"],
-  ["narrow-dark", 320, 1000, "dark"], ["page", 640, 560, "light"]];
+  ["narrow-dark", 320, 1000, "dark"], ["page", 600, 620, "light"]];
 const PICTURE_LIMIT = 60000;
 
 /** A button saves what the program makes. */
@@ -39,10 +39,12 @@ async function alone() {
   const line = String(made("compare", at("mine.tws"), at("theirs.tws"))).trimEnd().split("\n").pop();
   const count = (name) => line.match(new RegExp(`${name} (\\d+)`))[1];
   check("the counts", (await tab.run(counts)).startsWith(`${count("levels")} levels: ${count("only mine")} only mine`));
-  check("a fault in words", (await tab.run(texts("#files .fault"))).join().includes("cut.tws: the moves end inside the move at byte 50"));
+  const faults = (await tab.run(texts("#files .fault"))).join();
+  check("a fault in words", faults.includes("cut.tws: the moves end inside the move at byte 50"));
   check("names are text", (await tab.run(texts("#files h2"))).includes("hostile <b>&'.tws"));
   check("passwords are text", (await tab.run(texts("#files td"))).includes("<b>&"));
   check("names of levels are text", (await tab.run(texts("#files td"))).includes('<i>, "seven"'));
+  await looks(tab);
   check("no markup comes from files", await tab.run("document.querySelectorAll('main b, main i, main script').length === 0"));
 
   await saves(tab, "Save what is better in mine", "mine-better.tws", made("compare", "--better", at("mine.tws"), at("theirs.tws")));
@@ -75,7 +77,6 @@ async function alone() {
   const solved = Number(count("levels")) - Number(count("only theirs"));
   const totals = await tab.run("document.getElementById('totals').textContent");
   check("level by level", totals.startsWith(`Lynx: ${solved} of ${count("levels")} solved`));
-  await looks(tab);
   await tab.press("Remove");
   check("removed", await tab.until("document.querySelectorAll('#files section').length === 4"));
   await tab.drop([at("large.tws")]);
@@ -107,7 +108,8 @@ async function published() {
   check("the line for a shell", (await tab.run(texts("#send code"))).includes("tws put 127.0.0.1 better.tws"));
   check("there is a button", await tab.press("Send what is better in mine"));
   check("it is sent", await tab.until(`${said}.startsWith("Sent: ")`));
-  check("the archive has it", await tab.until("document.getElementById('send').textContent === 'The archive has nothing to gain from mine.'"));
+  const nothing = "The archive has nothing to gain from mine.";
+  check("the archive has it", await tab.until(`document.getElementById('send').textContent === "${nothing}"`));
   check("no problems there", tab.problems().length === 0 || (console.log(tab.problems()), false));
 }
 

@@ -45,26 +45,33 @@ same("standings", comparison.rows.map((row) => [row.level, row.words, row.side, 
   [1, "mine better by 26.85 s", "mine", 537], [2, "only mine", "mine", 0], [3, "tie", "tie", 0],
   [4, "theirs better at the same ticks", "theirs", 0], [9, "only theirs", "theirs", 0],
 ]);
-same("counts", tables.countsShown(comparison.counts), "5 levels: 1 only mine, 1 mine better, 1 tied, 1 theirs better, 1 only theirs");
-same("a comparison of nothing", tables.comparisonIn("levels 0 only mine 0 only theirs 0 mine better 0 theirs better 0 equal 0\n").rows, []);
+same("counts", tables.countsShown(comparison.counts),
+  "5 levels: 1 only mine, 1 mine better, 1 tied, 1 theirs better, 1 only theirs");
+const nothing = "levels 0 only mine 0 only theirs 0 mine better 0 theirs better 0 equal 0\n";
+same("a comparison of nothing", tables.comparisonIn(nothing).rows, []);
 
 same("fields", ['1,ABCD,"A, ""B""",200', "1,ABCD", "1,,", "", ' 1 , "A" '].map(tables.fieldsOf),
   [["1", "ABCD", 'A, "B"', "200"], ["1", "ABCD"], ["1", "", ""], [], ["1", '"A"']]);
-const levels = tables.levelsIn("\ufeffnumber,password,name,limit\r\n1,BDHP,KEYS AND CHIPS,200\r\n2,JXMJ,,150\n9,KCRE,\"THE, END\"\n\n<html>\n");
+const list = "\ufeffnumber,password,name,limit\r\n1,BDHP,KEYS AND CHIPS,200\r\n2,JXMJ,,150\n9,KCRE,\"THE, END\"\n\n<html>\n";
+const levels = tables.levelsIn(list);
 same("levels", levels.map((level) => Object.values(level)),
   [[1, "BDHP", "KEYS AND CHIPS", 200], [2, "JXMJ", "", 150], [9, "KCRE", "THE, END", 0]]);
 
 const solved = (level, password, ticks) => ({ level, password, ticks });
-const rows = tables.levelByLevel(levels, [solved(1, "BDHP", 637), solved(1, "BDHP", 100), solved(5, "NONE", 40)], [solved(9, "KCRE", 7)]);
+const lynx = [solved(1, "BDHP", 637), solved(1, "BDHP", 100), solved(5, "NONE", 40)], ms = [solved(9, "KCRE", 7)];
+const rows = tables.levelByLevel(levels, lynx, ms);
 same("level by level", rows.map((row) => [row.level, tables.timeShown(row, "lynx"), tables.timeShown(row, "ms")]),
   [[1, "195 - .00", ""], [2, "", ""], [5, "2.00 s", ""], [9, "", "999 - .3"]]);
-same("totals", ["lynx", "ms"].map((ruleset) => tables.totalShown(rows, ruleset)), ["2 of 4 solved, 195.00 s left", "1 of 4 solved"]);
+same("totals", ["lynx", "ms"].map((ruleset) => tables.totalShown(rows, ruleset)),
+  ["2 of 4 solved, 195.00 s left", "1 of 4 solved"]);
 
 same("sorted", tables.sorted([{ a: 2 }, {}, { a: 10 }, { a: 1 }], "a", true).map((row) => row.a), [10, 2, 1, undefined]);
 same("filtered", tables.filtered([{ a: "Keys", b: 1 }, { a: "End", b: 10 }], " E", ["a"]).length, 2);
-same("filtered by a number", tables.filtered([{ a: "Keys", b: 1 }, { a: "End", b: 10 }], "10", ["a", "b"]).map((row) => row.b), [10]);
+same("filtered by a number", tables.filtered([{ a: "Keys", b: 1 }, { a: "End", b: 10 }], "10", ["a", "b"]), [{ a: "End", b: 10 }]);
 
-same("sent", tables.sentShown("sent 51 bytes\nstatus 0\n"), { sent: true, words: "Sent: the archive has taken the file. (sent 51 bytes)" });
+same("sent", tables.sentShown("sent 51 bytes\nstatus 0\n"),
+  { sent: true, words: "Sent: the archive has taken the file. (sent 51 bytes)" });
+same("too long", tables.sentShown("too long\nstatus 1\n").words, "Not sent: the file is too long. (too long)");
 same("timed out", tables.sentShown("tws: transfer failed: timed out\nstatus 4\n").words,
   "Not sent: the archive does not answer. (tws: transfer failed: timed out)");
 same("refused", tables.sentShown("tws: transfer failed: refused 0\ntws: the server says: not kept\nstatus 4\n").words,
