@@ -121,7 +121,8 @@ def below(name):
     for line in Path("crates.txt").read_text().splitlines():
         if not line.startswith("#") and ":" in line:
             crate, rest = line.split(":", 1)
-            needs[crate] = rest.split()
+            # A static library says so after its name.
+            needs[crate.split()[0]] = rest.split()
     seen, left = [], [name]
     while left:
         crate = left.pop()

@@ -31,3 +31,5 @@ pub mod calling_tws_moves;
 pub mod calling_tws_reader;
 pub mod calling_tws_tables;
 pub mod calling_tws_tool;
+pub mod calling_web_answers;
+pub mod calling_web_arena;
