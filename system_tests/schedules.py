@@ -846,6 +846,9 @@ def broken_promise(events, left):
         if not any(peer == end and is_put_of(end, file) for peer, file in left.taken):
             return "exactly once if counted as sent"
     told = [to for _, to, content in left.datagrams if content == WORDS["NOT_KEPT"]]
+    unknown = [event.split()[2] for event in events if event.startswith("unknown-keep ")]
+    if len(told) != len(unknown) or len(left.recovered) != unknown.count("found"):
+        return "answered as not kept, and found or lost"
     if any(it not in left.taken or it[0] not in told for it in left.recovered):
         return "taken although the client was told that it was not kept"
     files = [file for _, file in left.taken]
@@ -1013,6 +1016,7 @@ def main():
             total = {name: total.get(name, 0) + count for name, count in happened.items()} | {"events": longest}
     check("the longest list", total["events"] == EVENTS)
     least = {"puts": 2000, "gets": 1000, "sent": total["puts"] // 2, "got": total["gets"] // 2, "strangers' files": 100, "restarts": 100}
+    least |= {"found keeps": 50, "lost keeps": 50}
     for name, count in least.items():
         check(f"{total[name]} {name}", total[name] > count)
     print(f"{passed} passed, {failed} failed, 0 skipped")
