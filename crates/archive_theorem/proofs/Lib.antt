@@ -57,3 +57,6 @@ pub mod Effects
 pub mod RealTime
 pub mod Entering
 pub mod Error_Table
+pub mod Event_Cases
+pub mod Patience_Table
+pub mod Patience

@@ -14,6 +14,7 @@ ghost use Rattle.archive_table.specs.Keeper.{Keeping, LoadedFrom};
 ghost use Rattle.archive_model.specs.Restarts.{HasKept, HaveOwnRuleset, LoadsAs, kept_texts, StepStaysKept, LoadsTheSame, FailsOutside, RunKeeps, RestartsFrom};
 ghost use Rattle.archive_theorem.specs.Effects.{TakesEffect, ReadsAtOnce, FetchesNoLess, FetchesNone};
 ghost use Rattle.archive_theorem.specs.Freeing.{IsFreed};
+ghost use Rattle.archive_theorem.specs.Patience.{IsHeld, HoldsByBlocks};
 ghost use Rattle.archive_theorem.specs.Progress.{CanPut, IsUnstuck, CanGet, GetIsUnstuck};
 ghost use Rattle.archive_theorem.specs.Durable.{AreNoWorse, LoadsPromised, CutsShort};
 ghost use Rattle.archive_theorem.specs.Traces.{Member, trace_from, trace_steps, TraceFrom, trace_end};
@@ -91,6 +92,13 @@ pub fn folder_law()
         IsUnstuck (last_world r) e file }
     ensures get_unstuck { (o : Origin) (r : RunFrom o) (e : Endpoint) («ruleset» : Ruleset) → e.host ≢ o.home.host →
         has_long_text (map_of «ruleset» (last_world r).server.maps) ≡ false → GetIsUnstuck (last_world r) e «ruleset» }
+{}
+
+/// No place of the server is held without blocks from the peer. In any stretch of a run over which one transfer is at a port, the
+/// port times out fewer than `MISSES` times, and `MISSES` times for each block of the transfer that is received or acknowledged there.
+pub fn places_law()
+    ensures { (o : Origin) (r : RunFrom o) (before after : List WorldStep) → r.steps ≡ before ++ after → (port : ℕ) →
+        IsHeld port after (run_from before (first_world o)) → HoldsByBlocks port (run_from before (first_world o)) after }
 {}
 
 /// For every trace, which names the datagrams that arrive: if each event that it makes may happen, so that each
