@@ -60,3 +60,7 @@ pub mod Error_Table
 pub mod Event_Cases
 pub mod Patience_Table
 pub mod Patience
+pub mod Error_Client
+pub mod Error_Claims
+pub mod Error_Steps
+pub mod Error_Runs

@@ -7,3 +7,4 @@ pub mod Effects
 pub mod Freeing
 pub mod Progress
 pub mod Patience
+pub mod Errors
