@@ -1,8 +1,8 @@
 #!/usr/bin/env python3
 """Checks the documents: `names`, that what they cite in backticks and link to is in the tree; `callers`, that the
 callers that they quote are those of the crate `uses`; `heads`, that no two files of proofs begin with the same comment;
-`sessions`, that a shell prints what they say. The arguments say which of these, by default all. The last line is 'N passed, M failed, K skipped': a session of a program that is not built
-is skipped."""
+`sessions`, that a shell prints what they say. The arguments say which of these, by default all. The last line is
+'N passed, M failed, K skipped': a session of a program that is not built is skipped."""
 import functools
 import os
 import queue
@@ -122,7 +122,7 @@ def crates():
 
 
 @functools.cache
-def page():
+def scripts():
     """What the page for browsers and the files in `contrib` define, as one crate."""
     found = Crate()
     for path in [*Path("page").glob("*.js"), *Path("page").glob("*.html"), *Path("contrib").rglob("*")]:
@@ -180,7 +180,7 @@ class Names:
     def __init__(self, document):
         folder = document.parts[1] if document.parts[0] == "crates" and len(document.parts) > 2 else None
         self.folder = document.parent
-        self.crates = [crates()[name] for name in below(folder)] if folder else [*crates().values(), page()]
+        self.crates = [crates()[name] for name in below(folder)] if folder else [*crates().values(), scripts()]
 
     def is_file(self, cited):
         if cited in FOREIGN_FILES | MADE_FILES:
