@@ -14,10 +14,10 @@ use Rattle.archive_client.specs.Client.{Client, failed, state_of}
 use Rattle.archive_model.specs.World.{Datagram, Opening, Got, World, client_at, Extends}
 use Rattle.archive_model.proofs.Places.{Has, Has-prefix, at-prefix, at-last, before_last}
 use Rattle.archive_theorem.specs.Headline.{IsOwn}
-use Rattle.archive_theorem.proofs.Claims.{HasBegun, IsBound, IsTaken, IsTakenFrom, HasCome, IsLiveEnd, IsRunning}
-use Rattle.archive_theorem.proofs.Lasting.{bound-lasts}
-use Rattle.archive_theorem.proofs.Owning.{own-before, put_begun}
-use Rattle.archive_theorem.proofs.Invariant.{Holds}
+use Rattle.archive_theorem.proofs.Claim_Past.{HasBegun, IsBound, IsTaken, IsTakenFrom, HasCome, IsLiveEnd, IsRunning}
+use Rattle.archive_theorem.proofs.Claim_Lasts.{bound-lasts}
+use Rattle.archive_theorem.proofs.Claim_Owns.{own-before, put_begun}
+use Rattle.archive_theorem.proofs.Claim_Invariant.{Holds}
 use Rattle.archive_theorem.proofs.Error_Table.{IsWith, HasUntaken}
 
 -- ---- what is claimed

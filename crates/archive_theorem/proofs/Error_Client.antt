@@ -22,7 +22,7 @@ use Rattle.archive_client.specs.declared.state.State.TheVariants as state
 use Rattle.archive_client.specs.Client.{Operation, put, get, Phase, asking, sending, receiving, failed, Client, ClientAnswer, is_over, client_stays, client_input, client_input_at, client_input_at_port, client_input_decoded, phase_peer, client_by_input, client_unless_over, client_datagram, client_timeout, phase_waits, asks_again, put_answered, put_waited, get_took, get_sent, get_answered, get_refused, get_waited, cause_of, state_of, phase_state, send_state, recv_state, sends_to}
 use Rattle.archive_client.proofs.Machine.{client_at, over-datagram}
 use Rattle.archive_model.specs.World.{newly_got}
-use Rattle.archive_theorem.proofs.Claims.{MayBind}
+use Rattle.archive_theorem.proofs.Claim_Past.{MayBind}
 
 -- ---- what an ERROR is for a client
 

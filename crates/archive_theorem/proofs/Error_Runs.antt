@@ -16,15 +16,15 @@ use Rattle.archive_model.proofs.Endpoints.{endpoint_is, exact_endpoint}
 use Rattle.archive_model.proofs.Growing.{step-extends, run-extends}
 use Rattle.archive_theorem.specs.Headline.{IsOwn}
 use Rattle.archive_theorem.specs.Errors.{HasFailed, IsNotTaken, IsTakenAtMostOnce, HasFetchedNothing}
-use Rattle.archive_theorem.proofs.Claims.{HasBegun, Binds, IsBound}
+use Rattle.archive_theorem.proofs.Claim_Past.{HasBegun, Binds, IsBound}
 use Rattle.archive_theorem.proofs.Keyed.{NewOrOld, lookup-set, lookup-written}
-use Rattle.archive_theorem.proofs.Lasting.{begun-lasts}
-use Rattle.archive_theorem.proofs.Owning.{own-before, no_stranger, get_begun}
-use Rattle.archive_theorem.proofs.Invariant.{Holds, first-holds, none_at}
-use Rattle.archive_theorem.proofs.ServerMoves.{begun_away}
-use Rattle.archive_theorem.proofs.Answering.{request_binds}
-use Rattle.archive_theorem.proofs.RequestPort.{run_same}
-use Rattle.archive_theorem.proofs.Happening.{step-holds, run-append, last-holds, merged-as, merged-first, merged-rest}
+use Rattle.archive_theorem.proofs.Claim_Lasts.{begun-lasts}
+use Rattle.archive_theorem.proofs.Claim_Owns.{own-before, no_stranger, get_begun}
+use Rattle.archive_theorem.proofs.Claim_Invariant.{Holds, first-holds, none_at}
+use Rattle.archive_theorem.proofs.Server_Moves.{begun_away}
+use Rattle.archive_theorem.proofs.Client_Answers.{request_binds}
+use Rattle.archive_theorem.proofs.Server_Port.{run_same}
+use Rattle.archive_theorem.proofs.Event_Happens.{step-holds, run-append, last-holds, merged-as, merged-first, merged-rest}
 use Rattle.archive_theorem.proofs.Event_Cases.{Cases, nothing, begun, answers, transfers, acts, expires, waits, strayed, restarted, ended, event-case}
 use Rattle.archive_theorem.proofs.Error_Client.{Fails, datagram-fails, timeout-fails, failed-datagram, failed-timeout, datagram-got, timeout-got, newly-got, datagram-own, timeout-own}
 use Rattle.archive_theorem.proofs.Error_Claims.{IsRefusal, IsRefused, Tells, Changes, refused-lasts, error-tells, ports_still}

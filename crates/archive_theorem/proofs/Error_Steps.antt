@@ -11,10 +11,10 @@ use Rattle.archive_client.specs.Client.{Client, request_out, client_start, clien
 use Rattle.archive_model.specs.World.{Datagram, Opening, World, client_at, datagram_of, net_with, opened_with, taken_with, taken_if, asked_of, after_request, after_transfer, ends, Extends}
 use Rattle.archive_model.proofs.Places.{Has, Has-push, Has-last, either}
 use Rattle.archive_model.proofs.Sources.{timeout-takes, datagram-takes}
-use Rattle.archive_theorem.proofs.Claims.{Binds}
-use Rattle.archive_theorem.proofs.Invariant.{Holds}
-use Rattle.archive_theorem.proofs.ServerMoves.{begun_away}
-use Rattle.archive_theorem.proofs.Remaining.{ack_leaves}
+use Rattle.archive_theorem.proofs.Claim_Past.{Binds}
+use Rattle.archive_theorem.proofs.Claim_Invariant.{Holds}
+use Rattle.archive_theorem.proofs.Server_Moves.{begun_away}
+use Rattle.archive_theorem.proofs.Headline_Remains.{ack_leaves}
 use Rattle.archive_theorem.proofs.Error_Table.{IsHarmless, IsWith, Closes, AnswersAt, AnswersRequest, datagram-answers, timeout-answers, request-answers}
 use Rattle.archive_theorem.proofs.Error_Claims.{IsRefusal, Tells, Opens, TakesFrom, OnlyRecovers, ClosesFor, Changes}
 use Rattle.archive_theorem.proofs.Event_Cases.{Cases, nothing, begun, answers, transfers, acts, expires, waits, strayed, restarted, ended}

@@ -21,7 +21,7 @@ use Rattle.tws_file.specs.Names.{ruleset_named}
 use Rattle.tws_best.specs.Best.{Collected}
 use Rattle.archive_table.specs.Table.{Table, Maps, Grant, all, no_memory, unkept, memory_verdict, End, Transfer, sending, receiving, TableAnswer, at_port, transfer_at, table_stays, refusal_dgram, opens_if, goes_on, closes, takes, map_of, has_slot, has_long_text, read_fits, read_with_slot, read_named, read_asked, write_with_slot, write_asked, request_by_packet, request_decoded, table_request, transfer_input, file_come, file_asked, block_answered, data_at, ack_at, sending_goes_on, receiving_goes_on, transfer_by_input, datagram_at, table_datagram, waits_at, timeout_at, table_timeout}
 use Rattle.archive_theorem.proofs.Keyed.{IsApart, lookup-set, lookup-written, lookup-remove, lookup-removed, lookup-insert_entry}
-use Rattle.archive_theorem.proofs.Invariant.{exact_port}
+use Rattle.archive_theorem.proofs.Claim_Invariant.{exact_port}
 
 -- what an end has come through
 abbrev pub end_waited : End → ℕ

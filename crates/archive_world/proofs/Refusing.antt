@@ -19,7 +19,7 @@ use Rattle.archive_table.specs.declared.step_event.StepEvent.{StepEvent}
 use Rattle.archive_table.specs.Table.{Table, Maps, Transfer, Taken, Step, TableAnswer, End, sending, receiving, Grant, all, unkept, transfer_input, out_from, file_asked, block_answered, data_at, transfer_by_input, datagram_at, IsFileMerge, MergesIntoOwn, IsMerged}
 use Rattle.archive_table.specs.Events.{IsDataEvent, IsInputEvent, IsDatagramEvent, TakesAs}
 use Rattle.archive_theorem.proofs.Readability.{readable_or_not}
-use Rattle.archive_theorem.proofs.Remaining.{ack_leaves}
+use Rattle.archive_theorem.proofs.Headline_Remains.{ack_leaves}
 use Rattle.archive_world.specs.Ending.{improves}
 use Rattle.archive_world.proofs.Delivering.{none_some}
 

@@ -16,12 +16,12 @@ use Rattle.archive_model.specs.World.{Datagram, Event, World, WorldStep, server_
 use Rattle.archive_model.specs.Restarts.{HasKept}
 use Rattle.archive_model.proofs.Sources.{wanted-completes}
 use Rattle.archive_theorem.specs.Headline.{HasOwnPorts}
-use Rattle.archive_theorem.proofs.Invariant.{AreBest}
-use Rattle.archive_theorem.proofs.Remaining.{TakesOrLeaves, found_takes}
-use Rattle.archive_theorem.proofs.Totality.{not_more, one_last}
-use Rattle.archive_theorem.proofs.Collecting.{best-collected, step-best}
-use Rattle.archive_theorem.proofs.Loading.{step-stays_kept}
-use Rattle.archive_theorem.proofs.Persisting.{own-ruleset}
+use Rattle.archive_theorem.proofs.Claim_Invariant.{AreBest}
+use Rattle.archive_theorem.proofs.Headline_Remains.{TakesOrLeaves, found_takes}
+use Rattle.archive_theorem.proofs.Headline_Total.{not_more, one_last}
+use Rattle.archive_theorem.proofs.Headline_Collections.{best-collected, step-best}
+use Rattle.archive_theorem.proofs.Keeper_Loads.{step-stays_kept}
+use Rattle.archive_theorem.proofs.Keeper_Runs.{own-ruleset}
 use Rattle.archive_world.specs.declared.event_fault.EventFault.{EventFault}
 use Rattle.archive_world.specs.declared.event_fault.EventFault.TheVariants as fault
 use Rattle.archive_world.specs.Replays.{Changes, WouldChange, Makes}

@@ -18,11 +18,11 @@ use Rattle.archive_model.specs.World.{Opening, World, WorldStep, Origin, first_w
 use Rattle.archive_model.proofs.Growing.{step-adds}
 use Rattle.archive_model.proofs.Places.{Has-contains, IsPrefix-push, IsPrefix-same, take-prefix, length-prefix}
 use Rattle.archive_theorem.specs.Headline.{IsOwn, ClientsHeadline, IsFinishedGet, files_of}
-use Rattle.archive_theorem.proofs.Invariant.{AreBest, given_files}
-use Rattle.archive_theorem.proofs.Collecting.{last-best}
-use Rattle.archive_theorem.proofs.Concluding.{run-clients}
-use Rattle.archive_theorem.proofs.Happening.{run-append}
-use Rattle.archive_theorem.proofs.Tracing.{merged_append}
+use Rattle.archive_theorem.proofs.Claim_Invariant.{AreBest, given_files}
+use Rattle.archive_theorem.proofs.Headline_Collections.{last-best}
+use Rattle.archive_theorem.proofs.Headline_Clients.{run-clients}
+use Rattle.archive_theorem.proofs.Event_Happens.{run-append}
+use Rattle.archive_theorem.proofs.Trace_Runs.{merged_append}
 use Rattle.archive_mirrors.specs.Archives.{Archives, Copy, Event, takes, fetches, puts, puts_better, IsBetterPart, HasNothingBetter, skips, of_ruleset, at_archive, copy_of, with_text, MayHappen, AllMayHappen, run, outside_of}
 use Rattle.archive_mirrors.specs.Archives as archives
 use Rattle.archive_mirrors.proofs.Moving as moving
