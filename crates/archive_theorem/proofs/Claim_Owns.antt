@@ -22,9 +22,12 @@ get_begun e rules count h =
 pub own-before : {past later : Past} → Extends past later → (e : Endpoint) → Owns later e → Owns past e
 own-before {past} {later} more e own =
     record {
-      operations = λ i j b c at_i at_j. own.operations i j b c (at-prefix past.begun later.begun more.begun i b at_i) (at-prefix past.begun later.begun more.begun j c at_j);
-      openings = λ i j o p at_i at_j. own.openings i j o p (at-prefix past.opened later.opened more.opened i o at_i) (at-prefix past.opened later.opened more.opened j p at_j);
-      stranger = λ d among. own.stranger d (Has-contains later.strays d (Has-prefix past.strays later.strays d more.strays (Has-from_contains past.strays d among)));
+      operations = λ i j b c at_i at_j. own.operations i j b c (at-prefix past.begun later.begun more.begun i b at_i)
+          (at-prefix past.begun later.begun more.begun j c at_j);
+      openings = λ i j o p at_i at_j. own.openings i j o p (at-prefix past.opened later.opened more.opened i o at_i)
+          (at-prefix past.opened later.opened more.opened j p at_j);
+      stranger = λ d among. own.stranger d
+          (Has-contains later.strays d (Has-prefix past.strays later.strays d more.strays (Has-from_contains past.strays d among)));
     }
 
 -- if no port is reused, those of an endpoint with an operation are its own
@@ -41,7 +44,8 @@ pub none_reused-before : (w v : World) → Extends w.past v.past → HasOwnPorts
 none_reused-before w v more own =
     record {
       operations = λ i j b c at_i at_j. own.operations i j b c (at-prefix w.begun v.begun more.begun i b at_i) (at-prefix w.begun v.begun more.begun j c at_j);
-      openings = λ i j o p at_i at_j. own.openings i j o p (at-prefix w.opened v.opened more.opened i o at_i) (at-prefix w.opened v.opened more.opened j p at_j);
+      openings = λ i j o p at_i at_j. own.openings i j o p (at-prefix w.opened v.opened more.opened i o at_i)
+          (at-prefix w.opened v.opened more.opened j p at_j);
       strangers = λ d among client.
           own.strangers d (Has-contains v.strays d (Has-prefix w.strays v.strays d more.strays (Has-from_contains w.strays d among)))
           (client.0, Has-contains v.begun client.0 (Has-prefix w.begun v.begun client.0 more.begun (Has-from_contains w.begun client.0 client.1)), client.2);

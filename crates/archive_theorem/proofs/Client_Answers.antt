@@ -176,7 +176,8 @@ pub get_asked : (rules : Ruleset) → asked_of (encode (operation_request (get r
 get_asked rules = ap asked_decoded (request_fields (get rules)) ∙ ap asked_named (own_name rules)
 
 -- a request says what has begun
-pub request_says : (w : World) (e target : Endpoint) (operation : Operation) → IsAskingFor w.past e operation → Says w.past e target (operation_request operation)
+pub request_says : (w : World) (e target : Endpoint) (operation : Operation) → IsAskingFor w.past e operation →
+    Says w.past e target (operation_request operation)
 request_says w e target (put file) there = record { file = file; began = record { count = there.count; among = there.among } }
 request_says w e target (get rules) there =
     record { rules = rules; named = own_name rules; count = there.count; began = record { among = there.among } }

@@ -56,7 +56,8 @@ fetched_over w v grows g is own =
     }
 
 -- the worlds before the begin, after it, and at the end
-module _ (w v : World) (s : WorldStep) (h : Holds w) (k : Holds v) (grows : Extends w.past v.past) (more : Extends (happens s w).past v.past) (e : Endpoint) (own : IsOwn v e) where
+module _ (w v : World) (s : WorldStep) (h : Holds w) (k : Holds v) (grows : Extends w.past v.past) (more : Extends (happens s w).past v.past) (e : Endpoint)
+    (own : IsOwn v e) where
   -- a get that begins later has fetched over no fewer files
   gets_later : (rules : Ruleset) → s.event ≡ begin e (get rules) → (g : Got) → Has w.got g → IsOwn w g.client → (late : Got) →
       Has v.got late → late.client ≡ e → (m : ℕ) × (n : ℕ) × (m ≤ n) × IsFetchedOver v g m × IsFetchedOver v late n
@@ -140,4 +141,5 @@ module _ (o : Origin) (before after : List WorldStep) (s : WorldStep) (merged : 
   pub fetches-none : FetchesNone (first_world o) before after s
   fetches-none e file event away short own g among own_then =
       let home = (run-extends before (first_world o)).home in
-      gets_none first last s first_holds last_holds grows more e own file event (λ ours. away (ours ∙ ap (λ (x : Endpoint). x.host) home)) short g (Has-from_contains first.got g among) own_then
+      gets_none first last s first_holds last_holds grows more e own file event (λ ours. away (ours ∙ ap (λ (x : Endpoint). x.host) home)) short g
+      (Has-from_contains first.got g among) own_then

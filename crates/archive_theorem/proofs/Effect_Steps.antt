@@ -164,18 +164,22 @@ module _ (w : World) (h : Holds w) (steps : List WorldStep) (merged : AllMerged 
     unfetched_first bound g among same =
         let was = first_holds.got g (Has-from_contains first.got g among) in
         let f = was.whose (subst (IsOwn first) (sym same) (own_first e own)) in
-        let began : HasBegun (run_from steps w).past e = begun-lasts first_grows e (subst (HasBegun first.past) same (get_begun g.client was.rules was.count was.began)) in
-        let here : IsBound (run_from steps w).past e f.port = subst (λ (x : Endpoint). IsBound (run_from steps w).past x f.port) same (bound-lasts first_grows g.client f.port f.bound) in
+        let began : HasBegun (run_from steps w).past e =
+        begun-lasts first_grows e (subst (HasBegun first.past) same (get_begun g.client was.rules was.count was.began)) in
+        let here : IsBound (run_from steps w).past e f.port =
+        subst (λ (x : Endpoint). IsBound (run_from steps w).past x f.port) same (bound-lasts first_grows g.client f.port f.bound) in
         let one : f.port ≡ port = last_holds.one_port e f.port port began own here bound in
         let early : f.serves.opened.among.position < length first.opened = before_last first.opened f.serves.opened.among.position _ f.serves.opened.among.is in
         let still = at-prefix first.opened (run_from steps w).opened first_grows.opened f.serves.opened.among.position _ f.serves.opened.among.is in
         let now = at-prefix next.opened (run_from steps w).opened next_grows.opened (length first.opened) opening
         (ap (λ (os : List Opening). slice_get os (length first.opened)) opens ∙ at-last first.opened opening) in
-        let index : f.serves.opened.among.position ≡ length first.opened = own.openings f.serves.opened.among.position (length first.opened) _ opening still now same refl one in
+        let index : f.serves.opened.among.position ≡ length first.opened =
+        own.openings f.serves.opened.among.position (length first.opened) _ opening still now same refl one in
         omega arith
 
     -- so the get takes effect at this step
-    gets_at : IsBound (run_from steps w).past e port → (file : List ℕ) → IsBestOver rules (files_of (take count (run_from steps w).taken)) file → GetsAt first step e rules file
+    gets_at : IsBound (run_from steps w).past e port → (file : List ℕ) → IsBestOver rules (files_of (take count (run_from steps w).taken)) file →
+        GetsAt first step e rules file
     gets_at bound file best =
         record {
           began = asked_by (next_holds.opened opening opened_last).whose;
@@ -209,7 +213,8 @@ module _ (o : Origin) (r : RunFrom o) where
         step = k.step;
         after = k.after;
         split = k.split;
-        at = puts_at (first_world o) at_first r.steps r.merged k.before k.step k.after k.split e own (λ ours. away (ours ∙ ap (λ (x : Endpoint). x.host) home)) file k.adds;
+        at = puts_at (first_world o) at_first r.steps r.merged k.before k.step k.after k.split e own
+            (λ ours. away (ours ∙ ap (λ (x : Endpoint). x.host) home)) file k.adds;
       }
 
   -- each put that counts as sent takes effect at a step of the run
@@ -220,7 +225,8 @@ module _ (o : Origin) (r : RunFrom o) where
       let away = begun_away (last_world r) at_last e (put_begun e s.file s.began) in
       let home = (run-extends r.steps (first_world o)).home in
       put_split e own (λ ours. away (ours ∙ ap (λ (x : Endpoint). x.host) (sym home))) there.position s.file
-      (added-in (λ (v : World). v.taken) (λ v s u. Unit {0}) (λ v s. AddsOne-weaker (λ u fits. tt) (step-adds v s).taken) r.steps (first_world o) there.position _ there.is)
+      (added-in (λ (v : World). v.taken) (λ v s u. Unit {0}) (λ v s. AddsOne-weaker (λ u fits. tt) (step-adds v s).taken) r.steps
+      (first_world o) there.position _ there.is)
 
   -- at first no transfer was opened, so some step opened it
   get_split : (g : Got) → IsOwn (last_world r) g.client → (rules : Ruleset) (port count : ℕ) → IsBound (last_world r).past g.client port →
@@ -245,5 +251,6 @@ module _ (o : Origin) (r : RunFrom o) where
       let is = at_last.got g (Has-from_contains (last_world r).got g among) in
       let f = is.whose own in
       get_split g own is.rules f.port f.serves.count f.bound f.serves.is_text.best f.serves.opened.among.position
-      (added-in (λ (v : World). v.opened) (λ v s o. o.taken ≡ length v.taken) (λ v s. AddsOne-weaker (λ o fits. fits.0) (step-adds v s).opened) r.steps (first_world o) f.serves.opened.among.position _
+      (added-in (λ (v : World). v.opened) (λ v s o. o.taken ≡ length v.taken) (λ v s. AddsOne-weaker (λ o fits. fits.0) (step-adds v s).opened) r.steps
+      (first_world o) f.serves.opened.among.position _
       f.serves.opened.among.is)

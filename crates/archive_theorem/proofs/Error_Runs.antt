@@ -73,13 +73,15 @@ module _ (w : World) (e : Endpoint) (operation : Operation) where
   new_client : (f : Endpoint) (c : Client) → client_at f (begins e operation w) ≡ Some c → NewOr f c
   new_client f c is = found_in f c (is_same f e) refl is
 
-asking_other : {P : Type 0} (c : Client) (port : ℕ) (home : Endpoint) (operation : Operation) (why : Cause) → c ≡ client_start port home operation → c.phase ≡ failed why → P
+asking_other : {P : Type 0} (c : Client) (port : ℕ) (home : Endpoint) (operation : Operation) (why : Cause) → c ≡ client_start port home operation →
+    c.phase ≡ failed why → P
 asking_other c port home operation why same is =
     let both : asking operation 0 ≡ failed why = ap (λ (x : Client). x.phase) (sym same) ∙ is in absurd cc
 
 -- ---- what is fetched
 
-got_added : (newly : Bool) (e : Endpoint) (file : Option (List ℕ)) (gs : List Got) (g : Got) → Has (got_with newly e file gs) g → Has gs g ⊎ ((g.client ≡ e) × (newly ≡ true))
+got_added : (newly : Bool) (e : Endpoint) (file : Option (List ℕ)) (gs : List Got) (g : Got) → Has (got_with newly e file gs) g →
+    Has gs g ⊎ ((g.client ≡ e) × (newly ≡ true))
 got_added true e (Some file) gs g has = either (λ old. old) (λ (new : g ≡ record { client = e; file = file }). (ap (λ (x : Got). x.client) new, refl))
     (Has-push gs (record { client = e; file = file }) g has)
 got_added true e None gs g has = inl has
@@ -123,7 +125,8 @@ module _ (w v : World) (h : Holds w) (k : Holds v) (tells : Tells w) (c : Change
 
   -- the claims for the world after it, if those of its clients hold
   module _ (begun_there : (e : Endpoint) (x : Client) → client_at e v ≡ Some x → HasBegun v.past e)
-      (fails_there : (e : Endpoint) (x : Client) (code : ℕ) → client_at e v ≡ Some x → x.phase ≡ failed (cause.Refused code) → code ≢ 5 → IsOwn v e → RefusedStill e)
+      (fails_there : (e : Endpoint) (x : Client) (code : ℕ) → client_at e v ≡ Some x → x.phase ≡ failed (cause.Refused code) → code ≢ 5 → IsOwn v e →
+      RefusedStill e)
       (got_there : (e : Endpoint) (x : Client) → client_at e v ≡ Some x → IsOwn v e → (g : Got) → Has v.got g → g.client ≡ e → state_of x ≡ state.Got) where
     tells_by : Tells v
     tells_by =
@@ -380,7 +383,8 @@ module _ (w : World) (h : Holds w) (tells : Tells w) where
       (λ e b own. server_before w v h k tells c (table_datagram unkept maps d.target.port d.source d.bytes w.server).step.out refl e b)
 
   -- a client that has failed stays so, if its ports stay its own
-  begun_stays : (e : Endpoint) (operation : Operation) (f : Endpoint) (why : Cause) → HasFailed w f why → IsOwn (begins e operation w) f → (here : Bool) → is_same f e ≡ here →
+  begun_stays : (e : Endpoint) (operation : Operation) (f : Endpoint) (why : Cause) → HasFailed w f why → IsOwn (begins e operation w) f → (here : Bool) →
+      is_same f e ≡ here →
       HasFailed (begins e operation w) f why
   begun_stays e operation f why there own true at =
       let same = exact_endpoint f e at in
@@ -401,7 +405,8 @@ module _ (w : World) (h : Holds w) (tells : Tells w) where
   case_stays v (answers spare grant d among other free) k c f why there own = same_clients v refl f why there
   case_stays v (transfers grant maps d among ours) k c f why there own = same_clients v refl f why there
   case_stays v (acts grant d x among is) k c f why there own =
-      stays_by w h d.target x (client_datagram (memory_verdict grant) d.source d.bytes x) (datagram_answer w grant d x among is) k tells c f why there (is_same f d.target) refl
+      stays_by w h d.target x (client_datagram (memory_verdict grant) d.source d.bytes x) (datagram_answer w grant d x among is) k tells c f why there
+      (is_same f d.target) refl
   case_stays v (expires port) k c f why there own = same_clients v refl f why there
   case_stays v (waits e x is) k c f why there own =
       stays_by w h e x (client_timeout x) (timeout_answer w e x is) k tells c f why there (is_same f e) refl
@@ -440,7 +445,8 @@ run_tells (s ∷ steps) w h merged tells =
     let k = step-holds w s h merged.0 in
     run_tells steps (happens s w) k merged.1 (step_tells w h tells s k)
 
-run_stays : (steps : List WorldStep) (w : World) → Holds w → AllMerged steps w → Tells w → (e : Endpoint) (why : Cause) → HasFailed w e why → IsOwn (run_from steps w) e →
+run_stays : (steps : List WorldStep) (w : World) → Holds w → AllMerged steps w → Tells w → (e : Endpoint) (why : Cause) → HasFailed w e why →
+    IsOwn (run_from steps w) e →
     HasFailed (run_from steps w) e why
 run_stays [] w h merged tells e why there own = there
 run_stays (s ∷ steps) w h merged tells e why there own =
@@ -491,7 +497,8 @@ module _ (o : Origin) (r : RunFrom o) (before after : List WorldStep) (split : r
   still =
       let h = last-holds o (record { steps = before; merged = merged-first before after first first_merged }) in
       subst (λ (w : World). HasFailed w e why) at_end
-      (run_stays after (run_from before first) h (merged-rest before after first first_merged) tells_at e why there (subst (λ (w : World). IsOwn w e) (sym at_end) own))
+      (run_stays after (run_from before first) h (merged-rest before after first first_merged) tells_at e why there
+      (subst (λ (w : World). IsOwn w e) (sym at_end) own))
 
   last_tells : Tells (last_world r)
   last_tells = run_tells r.steps first (first-holds o) r.merged (first_tells o)

@@ -90,7 +90,8 @@ module _ (w : World) (h : Holds w) (e : Endpoint) (operation : Operation) (away 
   unsaid own target (read name mode) binds says = absurd binds
   unsaid own target (write name mode) binds says = absurd binds
   unsaid own target (data_block n body) binds says =
-      ⊎_elim (λ (s : PutsBlock w.past e n body). not_before own (put_begun e s.file s.began)) (λ (s : ServesBlock w.past e target n body). absurd (away s.ours)) says
+      ⊎_elim (λ (s : PutsBlock w.past e n body). not_before own (put_begun e s.file s.began))
+      (λ (s : ServesBlock w.past e target n body). absurd (away s.ours)) says
   unsaid own target (ack n) binds says =
       ⊎_elim (λ (s : Fetches w.past e). not_before own (get_begun e s.rules s.count s.began)) (λ (s : ServerAcks w.past e target n). absurd (away s.ours)) says
   unsaid own target (error code text) binds says = absurd binds
@@ -102,7 +103,8 @@ module _ (w : World) (h : Holds w) (e : Endpoint) (operation : Operation) (away 
   unread own d (Err fault) reads binds says = absurd binds
 
   -- a datagram from there is a stranger's, or says what has begun
-  honest_there : (d : Datagram) → IsHonest w.past d → d.source ≡ e → IsStranger w.past e ⊎ ((p : Packet) → decode_bytes d.bytes ≡ Ok p → Says w.past e d.target p)
+  honest_there : (d : Datagram) → IsHonest w.past d → d.source ≡ e →
+      IsStranger w.past e ⊎ ((p : Packet) → decode_bytes d.bytes ≡ Ok p → Says w.past e d.target p)
   honest_there d honest same =
       subst (λ (x : Endpoint). IsStranger w.past x ⊎ ((p : Packet) → decode_bytes d.bytes ≡ Ok p → Says w.past x d.target p)) same honest.says
 

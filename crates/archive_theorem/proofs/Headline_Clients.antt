@@ -42,7 +42,8 @@ module _ (o : Origin) (w : World) (h : Holds w) (same : w.home ≡ o.home) (star
   first_taken =
       let texts = map (given o.home) o.texts in
       let size : length o.texts ≡ length texts = sym (length-map o.texts (given o.home)) in
-      ap (λ (n : ℕ). take n w.taken) size ∙ take-prefix texts w.taken (length texts) start (le_refl (length texts)) ∙ take_all (length texts) texts (le_refl (length texts))
+      ap (λ (n : ℕ). take n w.taken) size ∙ take-prefix texts w.taken (length texts) start (le_refl (length texts)) ∙ take_all (length texts) texts
+      (le_refl (length texts))
 
   -- ---- a client whose ports are its own
 

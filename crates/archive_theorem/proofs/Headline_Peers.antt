@@ -35,7 +35,8 @@ module _ (w : World) (h : Holds w) (first : ℕ) (before : AreFromOthers w.home 
       ⊎_elim (before i t later) (λ (is : (i ≡ length w.taken) × (t ≡ u)) ours. new u refl (ap (λ (x : Taken). x.peer.host) (sym is.1) ∙ ours))
       (at-push w.taken u i t at)
 
-  server_from : (request : Bool) (spare : ℕ) (grant : Grant) (maps : Maps) (d : Datagram) → AreFromOthers w.home first (server_receives request spare grant maps d w).taken
+  server_from : (request : Bool) (spare : ℕ) (grant : Grant) (maps : Maps) (d : Datagram) →
+      AreFromOthers w.home first (server_receives request spare grant maps d w).taken
   server_from true spare grant maps d =
       same_files (request_remains w (spare == w.server.request) (transfer_at spare w.server) spare grant d).0
   server_from false spare grant maps d =
@@ -51,7 +52,8 @@ module _ (w : World) (h : Holds w) (first : ℕ) (before : AreFromOthers w.home 
   delivers_from (Some d) spare grant maps = arrives_from (d.target.host == w.home.host) spare grant maps d
 
   -- so is one that was recovered
-  ends_from : (found : Bool) (maps : Maps) (d : Datagram) (t : Taken) → (table_datagram all w.server.maps d.target.port d.source d.bytes w.server).step.taken ≡ Some t →
+  ends_from : (found : Bool) (maps : Maps) (d : Datagram) (t : Taken) →
+      (table_datagram all w.server.maps d.target.port d.source d.bytes w.server).step.taken ≡ Some t →
       AreFromOthers w.home first (ends found t maps d w).taken
   ends_from false maps d t is = before
   ends_from true maps d t is =

@@ -202,7 +202,8 @@ module _ (w : World) where
       (refl, (decoded_leaves (memory_verdict grant) spare d.source (decode_bytes d.bytes) w.server).1)
 
   -- the server's answer, in the world
-  answer_takes : (grant : Grant) (a : Maps → TableAnswer) → TakesOrLeaves grant a w.server → TakesOrRemain (grant ≡ all) w (λ maps. world.after_transfer (a maps) w)
+  answer_takes : (grant : Grant) (a : Maps → TableAnswer) → TakesOrLeaves grant a w.server →
+      TakesOrRemain (grant ≡ all) w (λ maps. world.after_transfer (a maps) w)
   answer_takes grant a (inl leaves) =
       inl (
         world.after_transfer leaves.0 w,
@@ -217,7 +218,8 @@ module _ (w : World) where
       )
 
   -- a datagram at the server's host
-  server_takes : (request : Bool) (spare : ℕ) (grant : Grant) (d : Datagram) → TakesOrRemain (grant ≡ all) w (λ maps. server_receives request spare grant maps d w)
+  server_takes : (request : Bool) (spare : ℕ) (grant : Grant) (d : Datagram) →
+      TakesOrRemain (grant ≡ all) w (λ maps. server_receives request spare grant maps d w)
   server_takes true spare grant d =
       remains (grant ≡ all) w _ (request_remains (spare == w.server.request) (transfer_at spare w.server) spare grant d)
   server_takes false spare grant d =

@@ -101,7 +101,8 @@ fetches-own_sent o before after s merged e rules is own x has own_then got has_g
     fetched w v h k grows e own rules began x (Has-from_contains w.sent x has) own_then got (Has-from_contains v.got got has_got) same
 
 -- The sender and the getter have begun operations, so if no port is reused theirs are their own.
-pub fetches-sent : (home : Endpoint) (before after : List WorldStep) (s : WorldStep) → HasOwnPorts (run_from (before ++ s ∷ after) (first_world (empty_origin home))) →
+pub fetches-sent : (home : Endpoint) (before after : List WorldStep) (s : WorldStep) →
+    HasOwnPorts (run_from (before ++ s ∷ after) (first_world (empty_origin home))) →
     AllMerged (before ++ s ∷ after) (first_world (empty_origin home)) → FetchesSent (first_world (empty_origin home)) before after s
 fetches-sent home before after s own merged e rules is x has got has_got same =
     let o = empty_origin home in

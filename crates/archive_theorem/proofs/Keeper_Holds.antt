@@ -173,7 +173,8 @@ module _ (o : Origin) (r : RunFrom o) where
       let v = run_from (before ++ after) first in
       let merged = subst (λ (l : List WorldStep). AllMerged l first) split r.merged in
       let h = run_from-holds before first (first-holds o) (merged-first before after first merged) in
-      let worse = none-worse w h v.taken v.server.maps (end-extends before after first).taken (run_from-holds (before ++ after) first (first-holds o) merged).best in
+      let worse =
+      none-worse w h v.taken v.server.maps (end-extends before after first).taken (run_from-holds (before ++ after) first (first-holds o) merged).best in
       subst (λ (l : List WorldStep). AreNoWorse w.server.maps (run_from l first).server.maps) (sym split) worse
 
   module _ (log : List Keeping) (loads : LoadsAs log o.maps) where

@@ -62,14 +62,16 @@ module _ (s : Table) (apart : IsApart at_port exact_port s.live) where
 
   module _ (port : ℕ) (t : Transfer) (is : transfer_at port s ≡ Some t) (more : ℕ) where
     -- the transfer at the port is written
-    written_raised : (next : Transfer) (a : TableAnswer) → a.server.live ≡ set_value (at_port port) s.live next → end_waited t.end + more ≤ end_waited next.end →
+    written_raised : (next : Transfer) (a : TableAnswer) → a.server.live ≡ set_value (at_port port) s.live next →
+        end_waited t.end + more ≤ end_waited next.end →
         Raises more port s a
     written_raised next a live enough =
         let found : transfer_at port a.server ≡ Some next = ap (lookup (at_port port)) live ∙ lookup-written at_port exact_port s.live port t next is in
         record {
           here = λ o u old new.
               let was : end_waited o.end ≡ end_waited t.end = ap (λ (x : Transfer). end_waited x.end) (same_some (transfer_at port s) o t old is) in
-              let now : end_waited u.end ≡ end_waited next.end = ap (λ (x : Transfer). end_waited x.end) (same_some (transfer_at port a.server) u next new found) in
+              let now : end_waited u.end ≡ end_waited next.end =
+              ap (λ (x : Transfer). end_waited x.end) (same_some (transfer_at port a.server) u next new found) in
               omega (arith, was, now, enough);
           rest = λ q o u old new.
               elim (lookup-set at_port exact_port s.live port next q u (ap (lookup (at_port q)) (sym live) ∙ new)) [
@@ -102,7 +104,8 @@ module _ (s : Table) (apart : IsApart at_port exact_port s.live) where
     sender_raised send.Finished a enough = closes_raised (dgram_of a.out)
     sender_raised send.TimedOut a enough = closes_raised (dgram_of a.out)
 
-    receiver_raised : (state : RecvState) (a : RecvAnswer) → (state ≡ recv.Running ⊎ (state ≡ recv.Complete) → end_waited t.end + more ≤ receiver_waited a.receiver) →
+    receiver_raised : (state : RecvState) (a : RecvAnswer) →
+        (state ≡ recv.Running ⊎ (state ≡ recv.Complete) → end_waited t.end + more ≤ receiver_waited a.receiver) →
         Raises more port s (receiving_goes_on state port t.peer a s)
     receiver_raised recv.Running a enough = goes_on_raised (receiving a.receiver) (dgram_of a.out) (enough (inl refl))
     receiver_raised recv.Complete a enough = goes_on_raised (receiving a.receiver) (dgram_of a.out) (enough (inr refl))
@@ -161,7 +164,8 @@ module _ (s : Table) (apart : IsApart at_port exact_port s.live) where
         sender_raised port t is 0 (sender_ack n e).sender.state (sender_ack n e) (λ running. omega (arith, was, more))
     ack_raised (receiving r) same bounds n = stays_raised port s refl (table_stays s) refl
 
-    input_raised : (x : Input) → HasBounds t.end → (grant : Grant) (maps : Maps) (from : Endpoint) → Raises 0 port s (transfer_by_input x grant maps port from t s)
+    input_raised : (x : Input) → HasBounds t.end → (grant : Grant) (maps : Maps) (from : Endpoint) →
+        Raises 0 port s (transfer_by_input x grant maps port from t s)
     input_raised nothing bounds grant maps from = stays_raised port s refl (table_stays s) refl
     input_raised stray bounds grant maps from = stays_raised port s refl _ refl
     input_raised (refusal code) bounds grant maps from = closes_raised port t is 0 None
@@ -188,7 +192,8 @@ module _ (s : Table) (apart : IsApart at_port exact_port s.live) where
     datagram_raised (Some t) port is grant maps from bytes = input_raised port t is (transfer_input t.peer from bytes) (bounds port t is) grant maps from
 
     -- a datagram at a port
-    pub datagram-raises : (grant : Grant) (maps : Maps) (port : ℕ) (from : Endpoint) (bytes : List ℕ) → Raises 0 port s (table_datagram grant maps port from bytes s)
+    pub datagram-raises : (grant : Grant) (maps : Maps) (port : ℕ) (from : Endpoint) (bytes : List ℕ) →
+        Raises 0 port s (table_datagram grant maps port from bytes s)
     datagram-raises grant maps port from bytes = datagram_raised (transfer_at port s) port refl grant maps from bytes
 
   waits_raised : (found : Option Transfer) (port : ℕ) → transfer_at port s ≡ found → Raises 1 port s (timeout_at found port s)

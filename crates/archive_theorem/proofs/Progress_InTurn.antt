@@ -77,7 +77,8 @@ module _ (m : Maps) (home e : Endpoint) (away : e.host ≢ home.host) (p : ℕ) 
     same_host = ap (λ (x : Endpoint). x.host) (sym at)
 
     -- what the server sends from there is the last datagram
-    pub server-sent : length w.net ≡ i → slice_get (w.net ++ datagram_of w.home.host (record { from_port = p; to = e; dgram = bytes }) ∷ []) i ≡ Some (from_port bytes)
+    pub server-sent : length w.net ≡ i →
+        slice_get (w.net ++ datagram_of w.home.host (record { from_port = p; to = e; dgram = bytes }) ∷ []) i ≡ Some (from_port bytes)
     server-sent size =
         at-end w.net (datagram_of w.home.host (record { from_port = p; to = e; dgram = bytes })) i size
         ∙ ap (λ (host : ℕ). Some (record { source = record { host = host; port = p }; target = e; bytes = bytes })) (sym same_host)

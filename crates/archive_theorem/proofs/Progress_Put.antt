@@ -320,7 +320,8 @@ module _ (first : World) (e : Endpoint) (away : e.host ≢ first.home.host) (fil
 -- ---- after any run
 
 -- the server of a run has the port of its endpoint
-pub request-stays : (o : Origin) (r : RunFrom o) (more : List WorldStep) → (run_from more (last_world r)).server.request ≡ (run_from more (last_world r)).home.port
+pub request-stays : (o : Origin) (r : RunFrom o) (more : List WorldStep) →
+    (run_from more (last_world r)).server.request ≡ (run_from more (last_world r)).home.port
 request-stays o r more =
     let w = last_world r in
     run_same more w ∙ run_same r.steps (first_world o)

@@ -54,7 +54,8 @@ module _ (w : World) (h : Holds w) (port : ℕ) (t : Transfer) (is : transfer_at
       (sends_packet w port t.peer a.out (sends-reads_back s a k serving.bounds) (block_says w port t.peer s serving a.out a.sender.current k.sends))
 
   -- after a step of its sender the invariant holds
-  sender-holds : (s : Sender) (a : SendAnswer) → IsServing w.past t.peer port s → KeepsSender s a → Holds (after_transfer (sender_answered port t.peer a w.server) w)
+  sender-holds : (s : Sender) (a : SendAnswer) → IsServing w.past t.peer port s → KeepsSender s a →
+      Holds (after_transfer (sender_answered port t.peer a w.server) w)
   sender-holds s a serving k = sender_in a.sender.state s a serving k
 
   -- an ACK arrives

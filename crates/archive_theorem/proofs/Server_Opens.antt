@@ -96,7 +96,9 @@ module _ (w : World) (h : Holds w) (spare : ℕ) (free : transfer_at spare w.ser
           let at_port_then : IsBound w.past from t.port = subst (λ (e : Endpoint). IsBound w.past e t.port) same by.bound in
           let begun : HasBegun w.past from = subst (HasBegun w.past) same (put_begun u.peer u.file by.began) in
           let one = h.one_port from t.port spare begun own_then at_port_then bound in
-          let o = subst (λ (p : ℕ). HasOpened w.past from p to_write t.count) one (subst (λ (e : Endpoint). HasOpened w.past e t.port to_write t.count) same t.opened) in
+          let o =
+          subst (λ (p : ℕ). HasOpened w.past from p to_write t.count) one
+          (subst (λ (e : Endpoint). HasOpened w.past e t.port to_write t.count) same t.opened) in
           never_opened to_write t.count o own
 
       -- so none was taken at the new transfer

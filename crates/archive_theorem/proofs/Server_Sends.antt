@@ -129,7 +129,8 @@ module _ (w : World) (h : Holds w) where
       let next : Transfer = record { peer = t.peer; end = end } in
       let live : IsLive w.past port next = record { away = there.away; end = fits } in
       let untaken : IsUntaken w.past port next = λ running. h.untaken port t is (onward running) in
-      let pair : IsLive w.past q next × IsUntaken w.past q next = subst (λ (p : ℕ). IsLive w.past p next × IsUntaken w.past p next) (sym new.0) (live, untaken) in
+      let pair : IsLive w.past q next × IsUntaken w.past q next =
+      subst (λ (p : ℕ). IsLive w.past p next × IsUntaken w.past p next) (sym new.0) (live, untaken) in
       subst (λ (x : Transfer). IsLive w.past q x × IsUntaken w.past q x) (sym new.1) pair
 
   -- a transfer that goes on keeps the invariant

@@ -145,7 +145,8 @@ module _ (w : World) (h : Holds w) (maps : Maps) (port : ℕ) (t : Transfer) (fi
   -- a step that takes a file keeps the invariant
   pub takes-holds : Holds (world_taken maps port t file next out w)
   takes-holds =
-      served-holds w h (net_with w.home.host w.net out) (server_with maps port (with_end t next) w.server) (w.taken ++ taken_of t file ∷ []) w.recovered w.opened
+      served-holds w h (net_with w.home.host w.net out) (server_with maps port (with_end t next) w.server)
+      (w.taken ++ taken_of t file ∷ []) w.recovered w.opened
       (record {
         more = grows;
         honest = net_from_server w after grows out k.honest;

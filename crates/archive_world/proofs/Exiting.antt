@@ -242,7 +242,8 @@ module _ (w v : World) (reported now : Option (List Keeping)) (same : now ≡ re
   restart-comes home request made = (
     (home, request),
     λ ready. let has = ready refl in
-        restart_makes (made has.log has.reports has.kept (best-collected Lynx _ w.server.maps.lynx has.best.lynx) (best-collected Ms _ w.server.maps.ms has.best.ms)),
+        restart_makes (made has.log has.reports has.kept (best-collected Lynx _ w.server.maps.lynx has.best.lynx)
+        (best-collected Ms _ w.server.maps.ms has.best.ms)),
   )
 
 -- the same for an event that equals this one
