@@ -6,7 +6,6 @@ pub mod Invariant
 pub mod ServerMoves
 pub mod Sending
 pub mod Acking
-pub mod Readability
 pub mod Merging
 pub mod Taking
 pub mod Coming

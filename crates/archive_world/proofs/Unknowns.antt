@@ -19,7 +19,8 @@ use Rattle.archive_theorem.specs.Headline.{HasOwnPorts}
 use Rattle.archive_theorem.proofs.Invariant.{AreBest}
 use Rattle.archive_theorem.proofs.Remaining.{TakesOrLeaves, found_takes}
 use Rattle.archive_theorem.proofs.Totality.{not_more, one_last}
-use Rattle.archive_theorem.proofs.Collecting.{best-collected, step-best}
+use Rattle.tws_best.proofs.Collections.{best-collected}
+use Rattle.archive_theorem.proofs.Collecting.{step-best}
 use Rattle.archive_theorem.proofs.Loading.{step-stays_kept}
 use Rattle.archive_theorem.proofs.Persisting.{own-ruleset}
 use Rattle.archive_world.specs.declared.event_fault.EventFault.{EventFault}

@@ -6,7 +6,7 @@ use Rattle.std.proofs.lemmas.Map.Steps.{set_value_same}
 use Rattle.tftp_packet.specs.declared.endpoint.Endpoint.{Endpoint}
 use Rattle.tftp_ends.specs.Ends.{Verdict}
 use Rattle.tws_file.specs.declared.«ruleset».Ruleset.TheVariants.{Lynx, Ms}
-use Rattle.archive_table.specs.Table.{Table, Maps, empty_maps, is_same}
+use Rattle.archive_table.specs.Table.{Table, Maps, Taken, at_port, is_same, IsMerged}
 use Rattle.archive_table.specs.Keeper.{Keeping}
 use Rattle.archive_client.specs.declared.state.State.{State}
 use Rattle.archive_client.specs.declared.state.State.TheVariants as state
@@ -16,22 +16,25 @@ use Rattle.archive_wire.specs.Wire.{Entry, Replies, Receipt, datagram, nothing, 
 use Rattle.archive_runs.specs.Run.{Run, IsRunTurn, run_received, run_waited, begin_sized, begin_opened, put_result, WritesFetched, WritesGot}
 use Rattle.archive_runs.specs.declared.pace.Pace.{Pace}
 use Rattle.archive_runs.specs.Rounds.{RoundAnswers, round_received, round_goes, run_round, is_late, is_ready, IsRunRound}
-use Rattle.archive_model.specs.World.{Datagram, World, server_endpoint, start_from, start, run_from, AllMayHappen, AllMerged}
-use Rattle.archive_theorem.specs.Headline.{IsOwn, AreOver, HasOwnPorts, ClientsHeadline, Headline, SentOnce, IsFinishedGet}
-use Rattle.archive_theorem.specs.Traces.{Member, starts, loads, trace_from, trace_steps, AllDeedsMerged}
-use Rattle.archive_model.specs.Restarts.{HaveOwnRuleset}
+use Rattle.archive_model.specs.World.{Datagram, World, Origin, empty_origin, first_world, run_from, AllMayHappen, AllMerged}
+use Rattle.archive_theorem.specs.Headline.{IsOwn, HasOwnPorts, ClientsHeadline, Headline, SentOnce, IsFinishedGet}
+use Rattle.archive_theorem.specs.Traces.{Member, starts, loads, trace_from, trace_steps, TraceFrom}
 use Rattle.archive_model.proofs.Places.{Has-contains, Has-from_contains}
-use Rattle.archive_theorem.proofs.Invariant.{AreBest, none-over, start_from-best}
+use Rattle.archive_theorem.proofs.Invariant.{AreBest, Holds, exact_port, first-best}
+use Rattle.archive_theorem.proofs.Keyed as keyed
+use Rattle.archive_theorem.proofs.Merging.{best-taken}
+use Rattle.archive_theorem.proofs.Happening.{last-holds}
 use Rattle.archive_theorem.proofs.Collecting.{best-collected, run_from-best}
 use Rattle.archive_theorem.proofs.Persisting.{own-ruleset}
 use Rattle.archive_theorem.proofs.Tracing.{trace-makes, trace_merged, trace-clients, trace-headline}
 use Rattle.archive_running.specs.Members.{sent_in_calls, come_to, does, received_members, quiet_members, client_members, arrived_members, goes_members, round_members}
-use Rattle.archive_running.specs.Archive.{Archive, idle, IsStrangers, Brings, own_endpoint, after_begin, after_client_turn, after_restart, LoadsKept, Moves, server_turns, server_rounds, server_restarts, client_begins, client_turns, client_rounds, Reaches, reported, unreported, more, Mirrors, WritesFinished}
-use Rattle.archive_running.proofs.Fitting.{all-may, all-merged}
-use Rattle.archive_running.proofs.Showing.{Shows, with_client, shows-mirrors}
-use Rattle.archive_running.proofs.Coming.{Makes, IsBrought, begin-makes, client-makes, waits-makes, restart-makes}
-use Rattle.archive_running.proofs.Restarting.{KeptIn, turn-kept, restart-same}
-use Rattle.archive_running.proofs.Serving.{Brought, makes-then, sent-sendings, turn-makes, round-makes}
+use Rattle.archive_running.specs.Archive.{Archive, idle, IsStrangers, Brings, own_endpoint, after_begin, after_client_turn, after_restart, after_end, LoadsKept, LoadsWith, Moves, server_turns, server_rounds, server_restarts, server_ends, client_begins, client_turns, client_rounds, Reaches, reported, unreported, more, ArchiveRun, world_of, Mirrors, WritesFinished}
+use Rattle.archive_running.proofs.Member_Fits.{all-may, all-merged}
+use Rattle.archive_running.proofs.World_Shows.{Shows, with_client, shows-mirrors}
+use Rattle.archive_running.proofs.Member_Makes.{Makes, IsBrought, begin-makes, client-makes, waits-makes, restart-makes}
+use Rattle.archive_running.proofs.Keeper_Restarts.{KeptIn, HaveTexts, turn-kept, restart-same, restart-with}
+use Rattle.archive_running.proofs.Keeper_Unknown.{end-makes}
+use Rattle.archive_running.proofs.Server_Visits.{Brought, makes-then, sent-sendings, turn-makes, round-makes}
 
 -- ---- a turn of a client
 
@@ -39,11 +42,11 @@ use Rattle.archive_running.proofs.Serving.{Brought, makes-then, sent-sendings, t
 shows-idle : (a : Archive) (w : World) (e : Endpoint) (c : Client) → lookup (is_same e) a.clients ≡ Some c → Shows a w → Shows (with_client e c [] a) w
 shows-idle a w e c is h =
     let make : List (Endpoint × Client) → List Datagram → Archive =
-    λ cs l. record { server = a.server; clients = cs; begun = a.begun; taken = a.taken; net = l; kept = a.kept } in
+    λ cs l. record { home = a.home; server = a.server; clients = cs; begun = a.begun; taken = a.taken; net = l; kept = a.kept } in
     let net = subst (λ (l : List Datagram). Shows (make a.clients l) w) (sym (append-nil a.net)) h in
     subst (λ (cs : List (Endpoint × Client)). Shows (make cs (a.net ++ [])) w) (sym (set_value_same (is_same e) a.clients c is)) net
 
-module _ (a : Archive) (w : World) (h : Shows a w) (host : ℕ) (r : Run) (away : host ≢ server_endpoint.host)
+module _ (a : Archive) (w : World) (h : Shows a w) (host : ℕ) (r : Run) (away : host ≢ a.home.host)
     (is : lookup (is_same (own_endpoint host r)) a.clients ≡ Some r.client) where
   -- a quiet turn is a time-out of the world, or nothing
   waited_made : (last : Bool) (ok : Bool) →
@@ -81,7 +84,7 @@ module _ (a : Archive) (w : World) (h : Shows a w) (host : ℕ) (r : Run) (away 
 
 -- ---- a round of a client
 
-module _ (a : Archive) (w : World) (h : Shows a w) (host : ℕ) (r : Run) (away : host ≢ server_endpoint.host)
+module _ (a : Archive) (w : World) (h : Shows a w) (host : ℕ) (r : Run) (away : host ≢ a.home.host)
     (is : lookup (is_same (own_endpoint host r)) a.clients ≡ Some r.client) (pace : Pace) where
   -- what a client does with what it receives in a round makes its members
   arrived_made : (receipt : Receipt) (verdict : Verdict) (time : ℕ) (ok : Bool) →
@@ -123,23 +126,24 @@ module _ (a : Archive) (w : World) (h : Shows a w) (host : ℕ) (r : Run) (away 
 
 -- ---- a begin
 
-module _ (a : Archive) (w : World) (h : Shows a w) (host : ℕ) (operation : Operation) (replies : Replies) (r : Run) (away : host ≢ server_endpoint.host) where
+module _ (a : Archive) (w : World) (h : Shows a w) (host : ℕ) (operation : Operation) (replies : Replies) (r : Run)
+    (away : host ≢ a.home.host) where
   -- with a port that was opened, whether or not the file is too long
   sized_made : (long : Bool) (port : ℕ) → is_too_long operation ≡ long →
-      (begin_sized long server_endpoint operation port replies).result ≡ Ok r →
-      Makes (after_begin host operation r (begin_sized long server_endpoint operation port replies).calls a)
+      (begin_sized long a.home operation port replies).result ≡ Ok r →
+      Makes (after_begin host operation r (begin_sized long a.home operation port replies).calls a)
       (does (starts (own_endpoint host r) operation) ∷ []) w
   sized_made true port is e = absurd cc
   sized_made false port is e =
-      let begun = begin_sized false server_endpoint operation port replies in
-      let first : Run = record { client = client_start port server_endpoint operation; port = port; left = QUIET_TURNS } in
+      let begun = begin_sized false a.home operation port replies in
+      let first : Run = record { client = client_start port a.home operation; port = port; left = QUIET_TURNS } in
       let same : first ≡ r = cc in
       subst (λ (x : Run). Makes (after_begin host operation x begun.calls a) (does (starts (own_endpoint host x) operation) ∷ []) w) same
       (begin-makes a w h (record { host = host; port = port }) operation away is)
 
   -- any begin that succeeds
-  begin_made : (port : Option ℕ) → (begin_opened port server_endpoint operation replies).result ≡ Ok r →
-      Makes (after_begin host operation r (begin_opened port server_endpoint operation replies).calls a) (does (starts (own_endpoint host r) operation) ∷ []) w
+  begin_made : (port : Option ℕ) → (begin_opened port a.home operation replies).result ≡ Ok r →
+      Makes (after_begin host operation r (begin_opened port a.home operation replies).calls a) (does (starts (own_endpoint host r) operation) ∷ []) w
   begin_made (Some port) e = sized_made (is_too_long operation) port refl e
   begin_made None e = absurd cc
 
@@ -160,12 +164,21 @@ put_sent state.Sent len n e = refl
 put_sent state.Got len n e = absurd cc
 put_sent (state.Failed why) len n e = absurd cc
 
--- ---- from a server with these collections
+-- collections that are the best over files can be written as texts
+texts_over : (taken : List Taken) (maps : Maps) → AreBest taken maps → HaveTexts maps
+texts_over taken maps best =
+    record {
+      rules = own-ruleset taken maps best;
+      lynx = best-collected Lynx _ maps.lynx best.lynx;
+      ms = best-collected Ms _ maps.ms best.ms;
+    }
 
-module _ (texts : List (List ℕ)) (maps : Maps) (over : AreOver texts maps) where
+-- ---- from the server of an origin
+
+module _ (o : Origin) where
   -- the world at first
   abbrev first : World
-  first = start_from texts maps
+  first = first_world o
 
   -- so far: the members are the world's, and the keeper has what the server has
   record Made (a : Archive) (members : List Member) : Type 0 where
@@ -181,21 +194,21 @@ module _ (texts : List (List ℕ)) (maps : Maps) (over : AreOver texts maps) whe
   are_best : (a : Archive) (members : List Member) → Makes a members first → AreBest (trace_from members first).taken a.server.maps
   are_best a members makes =
       let steps = trace_steps members first in
-      let best = run_from-best steps first (steps_merged a members makes) (start_from-best texts maps over) in
+      let best = run_from-best steps first (steps_merged a members makes) (first-best o) in
       let made : run_from steps first ≡ trace_from members first = trace-makes members first (all-may members first makes.fit) in
       let traced = subst (λ (w : World). AreBest w.taken w.server.maps) made best in
       subst (λ (s : Table). AreBest (trace_from members first).taken s.maps) makes.shows.server traced
 
-  -- each is of its own ruleset
-  rules_of : (a : Archive) (members : List Member) → Makes a members first → HaveOwnRuleset a.server.maps
-  rules_of a members makes = own-ruleset (trace_from members first).taken a.server.maps (are_best a members makes)
+  -- so each can be written as a text of its own ruleset
+  texts_of : (a : Archive) (members : List Member) → Makes a members first → HaveTexts a.server.maps
+  texts_of a members makes = texts_over (trace_from members first).taken a.server.maps (are_best a members makes)
 
   -- a move of the server
   served : (a b : Archive) (members added : List Member) → Made a members → Makes b added (trace_from members first) →
-      (HaveOwnRuleset b.server.maps → KeptIn b.kept b.server.maps) → Made b (members ++ added)
+      (HaveTexts b.server.maps → KeptIn b.kept b.server.maps) → Made b (members ++ added)
   served a b members added before makes kept =
       let whole = makes-then b members added a first before.makes makes in
-      record { makes = whole; kept = kept (rules_of b (members ++ added) whole) }
+      record { makes = whole; kept = kept (texts_of b (members ++ added) whole) }
 
   -- a move of a client
   asked : (a b : Archive) (members added : List Member) → Made a members → b.server ≡ a.server → b.kept ≡ a.kept →
@@ -203,33 +216,57 @@ module _ (texts : List (List ℕ)) (maps : Maps) (over : AreOver texts maps) whe
   asked a b members added before server kept makes =
       record {
         makes = makes-then b members added a first before.makes makes;
-        kept = subst (λ (o : Option (List Keeping)). KeptIn o b.server.maps) (sym kept) (subst (λ (s : Table). KeptIn a.kept s.maps) (sym server) before.kept);
+        kept = subst (λ (log : Option (List Keeping)). KeptIn log b.server.maps) (sym kept)
+            (subst (λ (s : Table). KeptIn a.kept s.maps) (sym server) before.kept);
       }
 
   -- a restart, which loads what the keeper has
   restarted : (a : Archive) (members : List Member) (maps : Maps) (now : Option (List Keeping)) → LoadsKept a.kept now a.server.maps maps →
       Made a members → Made (after_restart maps now a) (members ++ does loads ∷ [])
   restarted a members maps now has before =
-      let best = are_best a members before.makes in
-      let same =
-      restart-same a.kept now a.server.maps maps has before.kept (best-collected Lynx _ a.server.maps.lynx best.lynx)
-      (best-collected Ms _ a.server.maps.ms best.ms) in
+      let same = restart-same a.kept now a.server.maps maps has before.kept in
       let makes = restart-makes a (trace_from members first) before.makes.shows now in
       let whole : Made (after_restart a.server.maps now a) (members ++ does loads ∷ []) =
       record { makes = makes-then _ members _ a first before.makes makes; kept = same.1 } in
       subst (λ (m : Maps). Made (after_restart m now a) (members ++ does loads ∷ [])) (sym same.0) whole
 
+  -- the world keeps the transfers of its server apart
+  holds_of : (a : Archive) (members : List Member) → Makes a members first → Holds (trace_from members first)
+  holds_of a members makes =
+      let steps = trace_steps members first in
+      subst Holds (trace-makes members first (all-may members first makes.fit))
+      (last-holds o (record { steps = steps; merged = steps_merged a members makes }))
+
+  -- an end in a keep, which the next start finds
+  ended : (a : Archive) (members : List Member) (t : Taken) (maps : Maps) (calls : List Entry) (later : Option (List Keeping)) (added : List Member) →
+      LoadsWith t.file a.kept later a.server.maps maps → Made a members →
+      (IsMerged t.file a.server.maps maps → Makes (after_end t maps calls later a) added (trace_from members first)) →
+      Made (after_end t maps calls later a) (members ++ added)
+  ended a members t maps calls later added finds before makes =
+      let best = are_best a members before.makes in
+      let texts : (m : Maps) → IsMerged t.file a.server.maps m → HaveTexts m =
+      λ m merged. texts_over _ m (best-taken (trace_from members first).taken t a.server.maps m best merged) in
+      let has = restart-with t.file a.kept later a.server.maps maps finds before.kept texts in
+      record { makes = makes-then _ members added a first before.makes (makes has.0); kept = has.1 }
+
   -- any move
   moved : {a b : Archive} {members added : List Member} → Made a members → Moves a b added → Made b (members ++ added)
   moved {members} before (server_turns a last timers per_host new took calls now t brings) =
       served a _ members _ before
-      (turn-makes a (trace_from members first) last timers per_host new took calls now t before.makes.shows (by_places server_endpoint.host calls a brings))
-      (λ rules. turn-kept _ _ a.server new.table _ _ took calls a.kept now t.visits rules before.kept)
+      (turn-makes a (trace_from members first) last timers per_host new took calls now t before.makes.shows (by_places a.home.host calls a brings))
+      (λ texts. turn-kept _ _ a.server new.table _ _ took calls a.kept now t.visits texts before.kept)
   moved {members} before (server_rounds a last timers per_host new took calls now t brings) =
       served a _ members _ before
-      (round-makes a (trace_from members first) last timers per_host new took calls now t before.makes.shows (by_places server_endpoint.host calls a brings))
-      (λ rules. turn-kept _ _ a.server new.table _ _ took _ a.kept now t.visits rules before.kept)
+      (round-makes a (trace_from members first) last timers per_host new took calls now t before.makes.shows (by_places a.home.host calls a brings))
+      (λ texts. turn-kept _ _ a.server new.table _ _ took _ a.kept now t.visits texts before.kept)
   moved {members} before (server_restarts a maps now has) = restarted a members maps now has before
+  moved {members} before (server_ends a mode port from bytes timers left new took calls now later p t maps came refused wanted brings finds) =
+      let w = trace_from members first in
+      let h = holds_of a members before.makes in
+      let apart = subst (λ (s : Table). keyed.IsApart at_port exact_port s.live) before.makes.shows.server h.apart in
+      ended a members t maps calls later _ finds before
+      (end-makes a w before.makes.shows apart mode port from bytes timers left new took calls now p t maps came refused wanted
+      (by_places a.home.host calls a brings) later)
   moved {members} before (client_begins a host operation port replies r away is) =
       asked a _ members _ before refl refl
       (begin_made a (trace_from members first) before.makes.shows host operation replies r away port is)
@@ -241,12 +278,13 @@ module _ (texts : List (List ℕ)) (maps : Maps) (over : AreOver texts maps) whe
       (round_made a (trace_from members first) before.makes.shows host old away is pace new calls t (by_places host calls a brings))
 
   -- before the first move
-  idle_made : (kept : Option (List Keeping)) → KeptIn kept maps → Made (idle texts maps kept) []
+  idle_made : (kept : Option (List Keeping)) → KeptIn kept o.maps → Made (idle o kept) []
   idle_made kept has =
       record {
         makes = record {
           fit = tt;
           shows = record {
+            home = refl;
             server = refl;
             clients = refl;
             begun = refl;
@@ -256,58 +294,64 @@ module _ (texts : List (List ℕ)) (maps : Maps) (over : AreOver texts maps) whe
             sent = λ e c is sent. absurd cc;
             got = λ e c file is given. absurd cc;
             known = λ e. refl;
-            apart = All-nil (λ p. p ≢ server_endpoint.port);
+            apart = All-nil (λ p. p ≢ o.home.port);
           };
         };
         kept = has;
       }
 
   -- so for each run of the archive
-  reached : {a : Archive} {members : List Member} → Reaches texts maps a members → Made a members
+  reached : {a : Archive} {members : List Member} → Reaches o a members → Made a members
   reached (reported log has) = idle_made (Some log) has
   reached unreported = idle_made None tt
   reached (more before move) = moved (reached before) move
 
   -- ---- what is promised
 
-  module _ (a : Archive) (members : List Member) (reaches : Reaches texts maps a members) where
+  module _ (r : ArchiveRun o) where
     -- the world of its trace has what it has
-    pub run-mirrors : Mirrors a (trace_from members first)
-    run-mirrors = shows-mirrors a (trace_from members first) (reached reaches).makes.shows
+    pub run-mirrors : Mirrors r.archive (world_of r)
+    run-mirrors = shows-mirrors r.archive (world_of r) (reached r.reaches).makes.shows
 
     -- each event of the world's run may happen
-    pub run-happens : AllMayHappen (trace_steps members first) first
-    run-happens = all-may members first (reached reaches).makes.fit
+    pub run-happens : AllMayHappen (trace_steps r.members first) first
+    run-happens = all-may r.members first (reached r.reaches).makes.fit
 
     -- each file that the world's run takes makes the collections after it
-    pub run-merged : AllMerged (trace_steps members first) first
-    run-merged = steps_merged a members (reached reaches).makes
+    pub run-merged : AllMerged (trace_steps r.members first) first
+    run-merged = steps_merged r.archive r.members (reached r.reaches).makes
 
-    -- the same by deeds
-    run-fits : AllDeedsMerged members first
-    run-fits = all-merged members first (reached reaches).makes.fit
+    -- a keeper with a log has what is loaded as the server's collections
+    pub run-kept : KeptIn r.archive.kept r.archive.server.maps
+    run-kept = (reached r.reaches).kept
+
+    -- its members are a trace
+    pub run-trace : TraceFrom o
+    run-trace =
+        record { members = r.members; may = run-happens; merged = all-merged r.members first (reached r.reaches).makes.fit }
 
     -- the headline holds for each client whose ports are its own
-    pub run-clients : ClientsHeadline (trace_from members first)
-    run-clients = trace-clients texts maps over members run-happens run-fits
+    pub run-clients : ClientsHeadline o (world_of r)
+    unfolding run-trace
+    run-clients = trace-clients o run-trace
 
-    module _ (e : Endpoint) (own : IsOwn (trace_from members first) e) (c : Client) where
+    module _ (e : Endpoint) (own : IsOwn (world_of r) e) (c : Client) where
       -- if its put returned Ok, its file was taken exactly once
-      pub run-sent : (len n : ℕ) → lookup (is_same e) a.clients ≡ Some c → put_result (state_of c) len ≡ Ok n →
-          SentOnce (trace_from members first).past e
+      pub run-sent : (len n : ℕ) → lookup (is_same e) r.archive.clients ≡ Some c → put_result (state_of c) len ≡ Ok n →
+          SentOnce (world_of r).past e
       run-sent len n is ok =
           let among = run-mirrors.sent e c is (put_sent (state_of c) len n ok) in
           (run-clients.client e (run-clients.sent e among) own).sent among
 
       -- what it has fetched is the collection at one of its own requests
-      finished_get : (file : List ℕ) → Contains (trace_from members first).got (record { client = e; file = file }) →
-          IsFinishedGet (trace_from members first).past (record { client = e; file = file })
+      finished_get : (file : List ℕ) → Contains (world_of r).got (record { client = e; file = file }) →
+          IsFinishedGet (world_of r).past (record { client = e; file = file })
       finished_get file among = (run-clients.client e (run-clients.got _ among) own).got _ among refl
 
       -- what a get writes that returns Ok is that file
       written_finished : (file : Result (List ℕ) Client) → file_or_client c ≡ file → (len : ℕ) (written now : Option (List ℕ)) →
-          lookup (is_same e) a.clients ≡ Some c → WritesFetched file (Ok len) written now →
-          WritesFinished e c len (trace_from members first) written now
+          lookup (is_same e) r.archive.clients ≡ Some c → WritesFetched file (Ok len) written now →
+          WritesFinished e c len (world_of r) written now
       written_finished (Ok file) given len written now is writes =
           record {
             file = file;
@@ -319,12 +363,11 @@ module _ (texts : List (List ℕ)) (maps : Maps) (over : AreOver texts maps) whe
       written_finished (Err k) given len written now is writes = absurd writes
 
       -- if its get returned Ok, what it wrote is the whole of such a file
-      pub run-fetched : (len : ℕ) (written now : Option (List ℕ)) → lookup (is_same e) a.clients ≡ Some c →
-          WritesGot c (Ok len) written now → WritesFinished e c len (trace_from members first) written now
+      pub run-fetched : (len : ℕ) (written now : Option (List ℕ)) → lookup (is_same e) r.archive.clients ≡ Some c →
+          WritesGot c (Ok len) written now → WritesFinished e c len (world_of r) written now
       run-fetched len written now is writes = written_finished (file_or_client c) refl len written now is writes.writes
 
 -- a server that has nothing at first
-pub run-headline : (a : Archive) (members : List Member) → Reaches [] empty_maps a members → HasOwnPorts (trace_from members start) →
-    Headline (trace_from members start)
-run-headline a members reaches own =
-    trace-headline members (run-happens [] empty_maps none-over a members reaches) own (run-fits [] empty_maps none-over a members reaches)
+pub run-headline : (home : Endpoint) (r : ArchiveRun (empty_origin home)) → HasOwnPorts (world_of r) → Headline (world_of r)
+unfolding run-trace
+run-headline home r own = trace-headline home (run-trace (empty_origin home) r) own

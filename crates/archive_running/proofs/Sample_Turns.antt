@@ -1,4 +1,4 @@
--- The outcomes of some runs, each computed from its events.
+-- A put of a file without bytes, and a get from a server that has nothing, in an archive whose server makes turns.
 use Rattle.std.proofs.Common.{◌≡◌, ℕ, zero, suc, true, List, [], ◌∷◌, ◌++◌, slice_get, Option, Some, Ok, is_some, refl, ap, sym, ◌∙◌, inl}
 use Rattle.tftp_packet.specs.declared.endpoint.Endpoint.{Endpoint}
 use Rattle.tftp_packet.specs.Packet.{encode, ack, data_block}
@@ -20,15 +20,15 @@ use Rattle.archive_server.specs.declared.next.Next.{Next}
 use Rattle.archive_server.specs.Timers.{timers_after, is_quiet, late_ports}
 use Rattle.archive_server.specs.Turn.{IsTurnIn, Answers, Server, IsTurn, Visited, KeepsAsked, next_asks, next_admits, next_visit, turn_next, walk_after, noted}
 use Rattle.archive_runs.specs.Run.{Run, RunAnswers, run_turn, begin_opened}
-use Rattle.archive_model.specs.World.{Datagram, server_endpoint, start}
-use Rattle.archive_theorem.specs.Traces.{Member, starts, trace_from}
+use Rattle.archive_model.specs.World.{Datagram, Origin, empty_origin, server_endpoint}
+use Rattle.archive_theorem.specs.Traces.{Member, starts}
 use Rattle.archive_theorem.specs.Headline.{HasOwnPorts}
-use Rattle.archive_theorem.proofs.Loading.{start-kept}
+use Rattle.archive_model.specs.Restarts.{LoadsAs}
 use Rattle.archive_model.proofs.Places.{Has-contains, Has-from_contains}
 use Rattle.archive_theorem.proofs.OwnTest.{own-by}
 use Rattle.archive_theorem.proofs.Premises.{empty_merged}
 use Rattle.archive_running.specs.Members.{come_to, visit_members, late_members, client_members, does}
-use Rattle.archive_running.specs.Archive.{Archive, idle, Brings, server_in, after_server, after_begin, after_client_turn, Moves, server_turns, client_begins, client_turns, reported, more, CanReach}
+use Rattle.archive_running.specs.Archive.{Archive, idle, Brings, server_in, after_server, after_begin, after_client_turn, Moves, server_turns, client_begins, client_turns, reported, more, ArchiveRun, world_of, CanReach}
 
 -- ---- one turn
 
@@ -90,6 +90,14 @@ after a answers =
 abbrev calls_of : Archive → Answers → List Entry
 calls_of a answers = (visited a answers).calls ++ (walk_after Turn (visited a answers) [] []).calls
 
+-- a server that has nothing, at the endpoint of the samples
+abbrev pub from_nothing : Origin
+from_nothing = empty_origin server_endpoint
+
+-- a keeper with an empty log has its collections
+pub none-loads : LoadsAs [] from_nothing.maps
+none-loads = record { lynx = refl; ms = refl }
+
 -- a keeper with an empty log
 abbrev nothing_kept : Option (List Keeping)
 nothing_kept = Some []
@@ -114,7 +122,7 @@ turned a answers =
 
 -- the members of that turn
 abbrev server_members : Archive → Answers → List Member
-server_members a answers = visit_members (turn_next (before a)) answers a.server ++ late_members []
+server_members a answers = visit_members a.home.host (turn_next (before a)) answers a.server ++ late_members []
 
 -- ---- both ends
 
@@ -133,7 +141,15 @@ done = record { sent = true; closed = true }
 -- a visit that receives these bytes, with everything granted
 abbrev receives_from : Endpoint → List ℕ → Answers
 receives_from from bytes =
-    record { receipt = datagram from bytes; admitted = true; spare = Some 4000; verdict = granted; grant = all; maps = empty_maps; replies = done }
+    record {
+      receipt = datagram from bytes;
+      admitted = true;
+      spare = Some 4000;
+      verdict = granted;
+      grant = all;
+      maps = empty_maps;
+      replies = done;
+    }
 
 -- a turn of the client that receives these bytes from the transfer's port
 abbrev answered : List ℕ → RunAnswers
@@ -149,7 +165,7 @@ asking operation =
 -- the archive after that
 abbrev begun : Operation → Archive
 begun operation =
-    after_begin 2 operation (asking operation) (begin_opened (Some 5000) server_endpoint operation done).calls (idle [] empty_maps nothing_kept)
+    after_begin 2 operation (asking operation) (begin_opened (Some 5000) server_endpoint operation done).calls (idle from_nothing nothing_kept)
 
 abbrev begin_members : Operation → List Member
 begin_members operation = does (starts here operation) ∷ []
@@ -213,8 +229,8 @@ acked =
     after_client_turn 2 (bound empty first_ack) over (run_turn (answered last_ack) (bound empty first_ack)).calls taken
 
 -- the put begins
-begins_put : Moves (idle [] empty_maps nothing_kept) (begun empty) (begin_members empty)
-begins_put = client_begins (idle [] empty_maps nothing_kept) 2 empty (Some 5000) done (asking empty) (λ e. cc) refl
+begins_put : Moves (idle from_nothing nothing_kept) (begun empty) (begin_members empty)
+begins_put = client_begins (idle from_nothing nothing_kept) 2 empty (Some 5000) done (asking empty) (λ e. cc) refl
 
 -- the server opens a transfer for it
 opens_put : Moves (begun empty) (opened empty) (server_members (begun empty) (request empty))
@@ -257,19 +273,26 @@ abbrev put_members : List Member
 put_members =
     received_members empty first_ack ++ server_members (received empty first_ack) last_block ++ client_members (answered last_ack) 2 (bound empty first_ack)
 
+-- so the archive has made this run
+abbrev put_run : ArchiveRun from_nothing
+put_run =
+    record {
+      archive = acked;
+      members = put_members;
+      reaches = more (more (more (more (more (reported [] none-loads) begins_put) opens_put) binds_put) takes) ends_put;
+    }
+
 -- no port is reused
-put_own : HasOwnPorts (trace_from put_members start)
+put_own : HasOwnPorts (world_of put_run)
 unfolding encode decode_bytes block_of
-put_own = own-by (trace_from put_members start) refl refl refl
+put_own = own-by (world_of put_run) refl refl refl
 
 -- so an archive can reach a client that counts its file as sent
 pub sends : CanReach (λ c. state_of c ≡ state.Sent)
 unfolding encode decode_bytes block_of
 sends =
     record {
-      archive = acked;
-      members = put_members;
-      reaches = more (more (more (more (more (reported [] start-kept) begins_put) opens_put) binds_put) takes) ends_put;
+      run = put_run;
       own = put_own;
       endpoint = here;
       client = over.client;
@@ -292,8 +315,8 @@ abbrev whole : List ℕ
 whole = encode (data_block 1 empty_text)
 
 -- the get begins
-begins_get : Moves (idle [] empty_maps nothing_kept) (begun lynx) (begin_members lynx)
-begins_get = client_begins (idle [] empty_maps nothing_kept) 2 lynx (Some 5000) done (asking lynx) (λ e. cc) refl
+begins_get : Moves (idle from_nothing nothing_kept) (begun lynx) (begin_members lynx)
+begins_get = client_begins (idle from_nothing nothing_kept) 2 lynx (Some 5000) done (asking lynx) (λ e. cc) refl
 
 -- the server opens a transfer for it
 opens_get : Moves (begun lynx) (opened lynx) (server_members (begun lynx) (request lynx))
@@ -312,19 +335,26 @@ gets =
     client_turns (opened lynx) 2 (asking lynx) (bound lynx whole) calls (record { answers = answered whole; run = refl; calls_are = refl }) (λ e. cc) refl
     (brings_at 2 calls (opened lynx) _ 1 refl refl)
 
+-- so the archive has made this run
+abbrev get_run : ArchiveRun from_nothing
+get_run =
+    record {
+      archive = received lynx whole;
+      members = received_members lynx whole;
+      reaches = more (more (more (reported [] none-loads) begins_get) opens_get) gets;
+    }
+
 -- no port is reused
-get_own : HasOwnPorts (trace_from (received_members lynx whole) start)
+get_own : HasOwnPorts (world_of get_run)
 unfolding encode decode_bytes block_of
-get_own = own-by (trace_from (received_members lynx whole) start) refl refl refl
+get_own = own-by (world_of get_run) refl refl refl
 
 -- so an archive can reach a client that has fetched a file
 pub fetches : CanReach (λ c. (file : List ℕ) × (file_or_client c ≡ Ok file))
 unfolding encode decode_bytes block_of
 fetches =
     record {
-      archive = received lynx whole;
-      members = received_members lynx whole;
-      reaches = more (more (more (reported [] start-kept) begins_get) opens_get) gets;
+      run = get_run;
       own = get_own;
       endpoint = here;
       client = (bound lynx whole).client;

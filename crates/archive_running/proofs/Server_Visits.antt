@@ -1,4 +1,4 @@
--- Each move of an archive is a list of members, after which the world has what the archive has.
+-- A turn or a round of the server is a list of members: those of its visit, and then its time-outs.
 use Rattle.std.proofs.Common.{◌≡◌, ◌≢◌, ℕ, Bool, true, false, ◌==◌, ◌&&◌, not, List, [], ◌∷◌, ◌++◌, fold, Option, None, Some, is_some, refl, ap, sym, ◌∙◌, subst, append-nil, append_assoc}
 use Rattle.std.proofs.lemmas.Bool.{eqb-false}
 use Rattle.std.proofs.lemmas.Grind.{flat_map-append}
@@ -15,15 +15,15 @@ use Rattle.archive_server.specs.declared.timer.Timer.{Timer}
 use Rattle.archive_server.specs.Timers.{timers_after, restart}
 use Rattle.archive_wire.specs.Wire.{Entry, Replies, Receipt, datagram, nothing, fault, sendings}
 use Rattle.archive_server.specs.Turn.{Answers, Visited, step_calls, transfer_received, is_usable, request_used, request_spared, request_admitted, request_received, Walk, walk_on, walk_after, next_visit, next_of, port_next, ready_next, turn_next, IsTurnIn, Server, IsTurn, IsRound}
-use Rattle.archive_model.specs.World.{Datagram, World, server_endpoint, taken_with}
+use Rattle.archive_model.specs.World.{Datagram, World, taken_with}
 use Rattle.archive_theorem.specs.Traces.{Member, server_waits_long, after_deed, trace_from}
 use Rattle.archive_model.proofs.Places.{Has, Has-prefix, either}
 use Rattle.archive_running.specs.Members.{arrival, sent_in, come_in, sent_in_calls, come_to, does, transfer_members, used_members, spared_members, admitted_members, request_members, visit_members, late_members}
 use Rattle.archive_running.specs.Archive.{Archive, after_server, server_in}
-use Rattle.archive_running.proofs.Fitting.{fit-append, trace-append}
-use Rattle.archive_running.proofs.Ports.{IsApart, above-apart}
-use Rattle.archive_running.proofs.Showing.{Shows, outs, with_answer}
-use Rattle.archive_running.proofs.Coming.{Makes, IsBrought, request-makes, transfer-makes, timeout-makes}
+use Rattle.archive_running.proofs.Member_Fits.{fit-append, trace-append}
+use Rattle.archive_running.proofs.Server_Ports.{IsApart, above-apart}
+use Rattle.archive_running.proofs.World_Shows.{Shows, outs, sent-calls, with_answer}
+use Rattle.archive_running.proofs.Member_Makes.{Makes, IsBrought, request-makes, transfer-makes, timeout-makes}
 
 -- ---- members one after another
 
@@ -36,9 +36,10 @@ makes-then c ms ns b w first next =
     }
 
 -- nothing is sent, taken or changed
-shows-still : (a : Archive) (w : World) → Shows a w → Shows (with_answer a.server None [] a) w
+pub shows-still : (a : Archive) (w : World) → Shows a w → Shows (with_answer a.server None [] a) w
 shows-still a w h =
     record {
+      home = h.home;
       server = h.server;
       clients = h.clients;
       begun = h.begun;
@@ -52,14 +53,6 @@ shows-still a w h =
     }
 
 -- ---- what calls send and receive
-
--- the calls after a step send the datagram of the step and no other
-sent-calls : (host : ℕ) (closes : Bool) (port : ℕ) (out : Option Out) (replies : Replies) →
-    sent_in_calls host (step_calls closes port out replies) ≡ outs host out
-sent-calls host true port None replies = refl
-sent-calls host true port (Some out) replies = refl
-sent-calls host false port None replies = refl
-sent-calls host false port (Some out) replies = refl
 
 -- the call that sends a datagram sends that
 pub sent-sendings : (host : ℕ) (out : Option Out) (ok : Bool) → sent_in_calls host (sendings out ok) ≡ outs host out
@@ -78,7 +71,7 @@ abbrev pub Brought : (host : ℕ) → List Entry → Archive → Type 0
 Brought host calls a = (d : Datagram) → Has (come_to host calls) d → IsBrought d a
 
 -- what the first of the calls bring is among what all bring
-brought-first : (host : ℕ) (before after : List Entry) (a : Archive) → Brought host (before ++ after) a → Brought host before a
+pub brought-first : (host : ℕ) (before after : List Entry) (a : Archive) → Brought host (before ++ after) a → Brought host before a
 brought-first host before after a brought d has =
     brought d (Has-prefix (come_to host before) (come_to host (before ++ after)) d
     (record { rest = come_to host after; is = flat_map-append (come_in host) before after }) has)
@@ -98,7 +91,7 @@ module _ (a : Archive) (w : World) (h : Shows a w) where
 
   -- what calls send is what they are given to send
   by_calls : (s : Table) (took : Option Taken) (calls : List Entry) (sent : List Datagram) (ms : List Member) →
-      sent_in_calls server_endpoint.host calls ≡ sent → Makes (with_answer s took sent a) ms w →
+      sent_in_calls a.home.host calls ≡ sent → Makes (with_answer s took sent a) ms w →
       Makes (after_server s took calls a.kept a) ms w
   by_calls s took calls sent ms is makes = subst (λ (l : List Datagram). Makes (with_answer s took l a) ms w) (sym is) makes
 
@@ -109,12 +102,12 @@ module _ (a : Archive) (w : World) (h : Shows a w) where
   -- a visit to a transfer's port
   transfer_made : (receipt : Receipt) (answers : Answers) (port : ℕ) → port ≢ a.server.request →
       let v = transfer_received receipt answers port a.server in
-      Brought server_endpoint.host v.calls a → Merges v.taken a.server.maps v.server.maps → VisitMakes v (transfer_members receipt answers port)
+      Brought a.home.host v.calls a → Merges v.taken a.server.maps v.server.maps → VisitMakes v (transfer_members a.home.host receipt answers port)
   transfer_made (datagram from bytes) answers port other brought merges =
       let x = table_datagram answers.grant answers.maps port from bytes a.server in
       let v = transfer_received (datagram from bytes) answers port a.server in
-      by_calls x.server x.step.taken v.calls (outs server_endpoint.host x.step.out) _
-      (sent-calls server_endpoint.host x.step.closed port x.step.out answers.replies)
+      by_calls x.server x.step.taken v.calls (outs a.home.host x.step.out) _
+      (sent-calls a.home.host x.step.closed port x.step.out answers.replies)
       (transfer-makes a w h port from bytes answers.grant answers.maps other (brought _ (record { position = 0; is = refl })) merges)
   transfer_made nothing answers port other brought merges = nothing_made
   transfer_made fault answers port other brought merges = nothing_made
@@ -134,20 +127,20 @@ module _ (a : Archive) (w : World) (h : Shows a w) where
   used_made : (usable_is : Bool) (spare : ℕ) → is_usable spare a.server ≡ usable_is →
       (verdict : Verdict) (replies : Replies) (from : Endpoint) (bytes : List ℕ) →
       let v = request_used usable_is spare verdict replies from bytes a.server in
-      IsBrought (arrival server_endpoint.host a.server.request from bytes) a → VisitMakes v (used_members usable_is spare verdict from bytes a.server)
+      IsBrought (arrival a.home.host a.server.request from bytes) a → VisitMakes v (used_members a.home.host usable_is spare verdict from bytes a.server)
   used_made true spare is verdict replies from bytes brought =
       let parts = usable (spare == 0) (spare == a.server.request) (is_some (transfer_at spare a.server)) is in
       let x = table_request verdict spare from bytes a.server in
       let v = request_used true spare verdict replies from bytes a.server in
-      by_calls x.server x.step.taken v.calls (outs server_endpoint.host x.step.out) _
-      (sent-calls server_endpoint.host (not x.step.opened) spare x.step.out replies)
+      by_calls x.server x.step.taken v.calls (outs a.home.host x.step.out) _
+      (sent-calls a.home.host (not x.step.opened) spare x.step.out replies)
       (request-makes a w h spare from bytes verdict (eqb-false _ _ parts.0) (none_some _ parts.1) brought)
   used_made false spare is verdict replies from bytes brought = nothing_made
 
   -- whether or not a spare port was opened
   spared_made : (spare : Option ℕ) (verdict : Verdict) (replies : Replies) (from : Endpoint) (bytes : List ℕ) →
       let v = request_spared spare verdict replies from bytes a.server in
-      IsBrought (arrival server_endpoint.host a.server.request from bytes) a → VisitMakes v (spared_members spare verdict from bytes a.server)
+      IsBrought (arrival a.home.host a.server.request from bytes) a → VisitMakes v (spared_members a.home.host spare verdict from bytes a.server)
   spared_made (Some spare) verdict replies from bytes brought =
       used_made (is_usable spare a.server) spare refl verdict replies from bytes brought
   spared_made None verdict replies from bytes brought = nothing_made
@@ -155,7 +148,7 @@ module _ (a : Archive) (w : World) (h : Shows a w) where
   -- whether or not it was let in
   admitted_made : (admitted : Bool) (answers : Answers) (from : Endpoint) (bytes : List ℕ) →
       let v = request_admitted admitted answers from bytes a.server in
-      IsBrought (arrival server_endpoint.host a.server.request from bytes) a → VisitMakes v (admitted_members admitted answers from bytes a.server)
+      IsBrought (arrival a.home.host a.server.request from bytes) a → VisitMakes v (admitted_members a.home.host admitted answers from bytes a.server)
   admitted_made true answers from bytes brought =
       spared_made answers.spare answers.verdict answers.replies from bytes brought
   admitted_made false answers from bytes brought = nothing_made
@@ -163,7 +156,7 @@ module _ (a : Archive) (w : World) (h : Shows a w) where
   -- a visit to the request port
   request_made : (receipt : Receipt) (answers : Answers) →
       let v = request_received receipt answers a.server in
-      Brought server_endpoint.host v.calls a → VisitMakes v (request_members receipt answers a.server)
+      Brought a.home.host v.calls a → VisitMakes v (request_members a.home.host receipt answers a.server)
   request_made (datagram from bytes) answers brought =
       admitted_made answers.admitted answers from bytes (brought _ (record { position = 0; is = refl }))
   request_made nothing answers brought = nothing_made
@@ -172,7 +165,7 @@ module _ (a : Archive) (w : World) (h : Shows a w) where
   -- any visit
   visit_made : (n : Next) → IsFit n a.server → (answers : Answers) →
       let v = next_visit n answers a.server in
-      Brought server_endpoint.host v.calls a → Merges v.taken a.server.maps v.server.maps → VisitMakes v (visit_members n answers a.server)
+      Brought a.home.host v.calls a → Merges v.taken a.server.maps v.server.maps → VisitMakes v (visit_members a.home.host n answers a.server)
   visit_made next.Request fit answers brought merges = request_made answers.receipt answers brought
   visit_made (next.Transfer port) fit answers brought merges = transfer_made answers.receipt answers port fit brought merges
   visit_made next.Nowhere fit answers brought merges = nothing_made
@@ -180,7 +173,7 @@ module _ (a : Archive) (w : World) (h : Shows a w) where
 -- ---- time-outs
 
 -- time-outs, port by port
-walk_made : (late : List (ℕ × Replies)) (due : ℕ) (k : Walk) (a : Archive) (w : World) → Shows (after_server k.server None k.calls a.kept a) w →
+pub walk_made : (late : List (ℕ × Replies)) (due : ℕ) (k : Walk) (a : Archive) (w : World) → Shows (after_server k.server None k.calls a.kept a) w →
     let end = fold (walk_on due) k late in
     Makes (after_server end.server None end.calls a.kept a) (late_members late) w
 walk_made [] due k a w h = record { fit = tt; shows = h }
@@ -189,12 +182,13 @@ walk_made (e ∷ late) due k a w h =
     let calls = step_calls x.step.closed e.0 x.step.out e.1 in
     let m = does (server_waits_long e.0) in
     let first = timeout-makes (after_server k.server None k.calls a.kept a) w h e.0 in
-    let net : a.net ++ sent_in_calls server_endpoint.host k.calls ++ outs server_endpoint.host x.step.out ≡ a.net ++ sent_in_calls
-    server_endpoint.host (k.calls ++ calls) =
-    ap (λ (l : List Datagram). a.net ++ sent_in_calls server_endpoint.host k.calls ++ l)
-    (sym (sent-calls server_endpoint.host x.step.closed e.0 x.step.out e.1))
-    ∙ sent-more a.net server_endpoint.host k.calls calls in
-    let make : List Datagram → Archive = λ l. record { server = x.server; clients = a.clients; begun = a.begun; taken = a.taken; net = l; kept = a.kept } in
+    let net : a.net ++ sent_in_calls a.home.host k.calls ++ outs a.home.host x.step.out ≡ a.net ++ sent_in_calls
+    a.home.host (k.calls ++ calls) =
+    ap (λ (l : List Datagram). a.net ++ sent_in_calls a.home.host k.calls ++ l)
+    (sym (sent-calls a.home.host x.step.closed e.0 x.step.out e.1))
+    ∙ sent-more a.net a.home.host k.calls calls in
+    let make : List Datagram → Archive =
+    λ l. record { home = a.home; server = x.server; clients = a.clients; begun = a.begun; taken = a.taken; net = l; kept = a.kept } in
     let shown : Shows (after_server x.server None (k.calls ++ calls) a.kept a) (after_deed m.deed m.grant m.maps w) =
     subst (λ (l : List Datagram). Shows (make l) (after_deed m.deed m.grant m.maps w)) net first.shows in
     let rest = walk_made late due (walk_on due k e) a (after_deed m.deed m.grant m.maps w) shown in
@@ -205,17 +199,17 @@ after_visit : (a : Archive) (w : World) (v : Visited) (end : Walk) (ms late : Li
     let visited = after_server v.server v.taken v.calls a.kept a in
     Makes visited ms w →
     (Shows visited (trace_from ms w) → Makes (after_server end.server None end.calls visited.kept visited) late (trace_from ms w)) →
-    (s : Table) (calls : List Entry) → s ≡ end.server → sent_in_calls server_endpoint.host calls ≡ sent_in_calls server_endpoint.host
+    (s : Table) (calls : List Entry) → s ≡ end.server → sent_in_calls a.home.host calls ≡ sent_in_calls a.home.host
     (v.calls ++ end.calls) → Makes (after_server s v.taken calls a.kept a) (ms ++ late) w
 after_visit a w v end ms late first next s calls server_is calls_are =
     let both = makes-then _ ms late _ w first (next first.shows) in
     let make : Table → List Datagram → Archive =
-    λ t l. record { server = t; clients = a.clients; begun = a.begun; taken = taken_with v.taken a.taken; net = l; kept = a.kept } in
-    let net : a.net ++ sent_in_calls server_endpoint.host v.calls ++ sent_in_calls server_endpoint.host end.calls ≡ a.net ++ sent_in_calls
-    server_endpoint.host calls =
-    sent-more a.net server_endpoint.host v.calls end.calls ∙ ap (λ (l : List Datagram). a.net ++ l) (sym calls_are) in
+    λ t l. record { home = a.home; server = t; clients = a.clients; begun = a.begun; taken = taken_with v.taken a.taken; net = l; kept = a.kept } in
+    let net : a.net ++ sent_in_calls a.home.host v.calls ++ sent_in_calls a.home.host end.calls ≡ a.net ++ sent_in_calls
+    a.home.host calls =
+    sent-more a.net a.home.host v.calls end.calls ∙ ap (λ (l : List Datagram). a.net ++ l) (sym calls_are) in
     let sent = subst (λ (l : List Datagram). Makes (make end.server l) (ms ++ late) w) net both in
-    subst (λ (t : Table). Makes (make t (a.net ++ sent_in_calls server_endpoint.host calls)) (ms ++ late) w) (sym server_is) sent
+    subst (λ (t : Table). Makes (make t (a.net ++ sent_in_calls a.home.host calls)) (ms ++ late) w) (sym server_is) sent
 
 -- the keeper's list is not part of it
 keeps-makes : (now : Option (List Keeping)) (s : Table) (took : Option Taken) (calls : List Entry) (a : Archive) (ms : List Member) (w : World) →
@@ -225,6 +219,7 @@ keeps-makes now s took calls a ms w made =
     record {
       fit = made.fit;
       shows = record {
+        home = h.home;
         server = h.server;
         clients = h.clients;
         begun = h.begun;
@@ -241,20 +236,20 @@ keeps-makes now s took calls a ms w made =
 -- a visit, and the time-outs after it
 visit-makes : (a : Archive) (w : World) (mode : Mode) (n : Next) (new : Table) (timers left : List Timer) (took : Bool) (calls : List Entry)
     (now : Option (List Keeping)) (p : IsTurnIn mode n a.server new timers left took calls a.kept now) →
-    IsFit n a.server → Shows a w → Brought server_endpoint.host calls a →
-    Makes (after_server new (next_visit n p.answers a.server).taken calls now a) (visit_members n p.answers a.server ++ late_members p.late) w
+    IsFit n a.server → Shows a w → Brought a.home.host calls a →
+    Makes (after_server new (next_visit n p.answers a.server).taken calls now a) (visit_members a.home.host n p.answers a.server ++ late_members p.late) w
 visit-makes a w mode n new timers left took calls now p fit h brought =
     let v = next_visit n p.answers a.server in
     let end = walk_after mode v p.late timers in
-    let came : Brought server_endpoint.host v.calls a =
-    brought-first server_endpoint.host v.calls end.calls a (subst (λ (l : List Entry). Brought server_endpoint.host l a) p.calls_are brought) in
+    let came : Brought a.home.host v.calls a =
+    brought-first a.home.host v.calls end.calls a (subst (λ (l : List Entry). Brought a.home.host l a) p.calls_are brought) in
     let visited = after_server v.server v.taken v.calls a.kept a in
     keeps-makes now new v.taken calls a _ w
     (after_visit a w v end _ _
     (visit_made a w h n fit p.answers came p.merges)
     (λ shown. walk_made p.late (restart mode) (record { server = v.server; timers = timers_after mode v.change timers; calls = [] }) visited
     _ (shows-still visited _ shown))
-    new calls p.table (ap (sent_in_calls server_endpoint.host) p.calls_are))
+    new calls p.table (ap (sent_in_calls a.home.host) p.calls_are))
 
 -- a turn visits the request port or a transfer's
 turn_fits : (last : ℕ) (found : Option ℕ) (s : Table) → port_above last s ≡ found → IsApart s → IsFit (next_of found) s
@@ -264,10 +259,10 @@ turn_fits last None s is apart = tt
 -- the world makes the members of a turn
 pub turn-makes : (a : Archive) (w : World) (last : ℕ) (timers : List Timer) (per_host : ℕ) (new : Server) (took : Bool) (calls : List Entry)
     (now : Option (List Keeping)) (t : IsTurn (server_in last timers per_host a) new took calls a.kept now) →
-    Shows a w → Brought server_endpoint.host calls a →
+    Shows a w → Brought a.home.host calls a →
     let n = turn_next (server_in last timers per_host a) in
     Makes (after_server new.table (next_visit n t.visits.answers a.server).taken calls now a)
-    (visit_members n t.visits.answers a.server ++ late_members t.visits.late) w
+    (visit_members a.home.host n t.visits.answers a.server ++ late_members t.visits.late) w
 turn-makes a w last timers per_host new took calls now t h brought =
     visit-makes a w Turn (turn_next (server_in last timers per_host a)) new.table timers new.timers took calls now t.visits
     (turn_fits last (port_above last a.server) a.server refl h.apart) h brought
@@ -285,13 +280,15 @@ ready_fits None s = tt
 -- the world makes the members of a round
 pub round-makes : (a : Archive) (w : World) (last : ℕ) (timers : List Timer) (per_host : ℕ) (new : Server) (took : Bool)
     (calls : List Entry) (now : Option (List Keeping)) (t : IsRound (server_in last timers per_host a) new took calls a.kept now) →
-    Shows a w → Brought server_endpoint.host calls a →
+    Shows a w → Brought a.home.host calls a →
     let n = ready_next t.ready a.server in
     Makes (after_server new.table (next_visit n t.visits.answers a.server).taken calls now a)
-    (visit_members n t.visits.answers a.server ++ late_members t.visits.late) w
+    (visit_members a.home.host n t.visits.answers a.server ++ late_members t.visits.late) w
 round-makes a w last timers per_host new took calls now t h brought =
     let n = ready_next t.ready a.server in
-    let others : Brought server_endpoint.host t.others a = subst (λ (l : List Entry). Brought server_endpoint.host l a) t.calls_are brought in
-    let made = visit-makes a w (Round t.time t.settled per_host) n new.table timers new.timers took t.others now t.visits (ready_fits t.ready a.server) h others in
+    let others : Brought a.home.host t.others a = subst (λ (l : List Entry). Brought a.home.host l a) t.calls_are brought in
+    let made =
+    visit-makes a w (Round t.time t.settled per_host) n new.table timers new.timers took t.others now t.visits
+    (ready_fits t.ready a.server) h others in
     let make : List Entry → Archive = λ l. after_server new.table (next_visit n t.visits.answers a.server).taken l now a in
-    subst (λ (l : List Entry). Makes (make l) (visit_members n t.visits.answers a.server ++ late_members t.visits.late) w) (sym t.calls_are) made
+    subst (λ (l : List Entry). Makes (make l) (visit_members a.home.host n t.visits.answers a.server ++ late_members t.visits.late) w) (sym t.calls_are) made

@@ -7,25 +7,29 @@ use Rattle.std.proofs.lemmas.Map.{keys-set_value}
 use Rattle.std.proofs.lemmas.Map.Made.{is_some-lookup}
 use Rattle.tftp_packet.specs.declared.endpoint.Endpoint.{Endpoint}
 use Rattle.tftp_packet.specs.declared.out.Out.{Out}
-use Rattle.archive_table.specs.Table.{Table, Taken, is_same}
+use Rattle.archive_table.specs.Table.{Table, Maps, Taken, unkept, is_same, table_datagram}
 use Rattle.archive_table.specs.Keeper.{Keeping}
 use Rattle.archive_table.specs.Table as table
 use Rattle.archive_client.specs.declared.state.State.TheVariants as state
 use Rattle.archive_client.specs.Client.{Operation, Client, request_out, client_start, state_of, phase_file, file_or, file_or_client}
 use Rattle.archive_client.specs.Client as client
-use Rattle.archive_model.specs.World.{Datagram, Begun, Opening, Got, World, server_endpoint, has_begun, datagram_of, net_with, taken_with, sent_with, got_with, newly_sent, newly_got, after_client, begins, restarts}
+use Rattle.archive_server.specs.Turn.{step_calls}
+use Rattle.archive_wire.specs.Wire.{Replies}
+use Rattle.archive_model.specs.World.{Datagram, Begun, Opening, Got, World, has_begun, datagram_of, net_with, taken_with, sent_with, got_with, newly_sent, newly_got, after_client, begins, ends, restarts}
 use Rattle.archive_theorem.specs.Traces.{named_in}
 use Rattle.archive_model.proofs.Places.{Has, Has-contains, Has-from_contains, Has-prefix, IsPrefix-push, Has-last, Has-push, either}
 use Rattle.archive_theorem.proofs.Keyed.{lookup-set}
 use Rattle.archive_model.proofs.Endpoints.{exact_endpoint}
 use Rattle.archive_theorem.proofs.ServerMoves.{served}
+use Rattle.archive_running.specs.Members.{sent_in_calls}
 use Rattle.archive_running.specs.Archive.{Archive, Mirrors, after_restart}
-use Rattle.archive_running.proofs.Ports.{IsApart}
-use Rattle.archive_running.proofs.Ended.{Ends}
+use Rattle.archive_running.proofs.Server_Ports.{IsApart}
+use Rattle.archive_running.proofs.Client_Ends.{Ends}
 
 -- what is promised, by places, with what it needs: that operations have clients, and that no transfer is at the request
 -- port
 pub record Shows (a : Archive) (w : World) : Type 0 where
+  pub home : w.home ≡ a.home
   pub server : w.server ≡ a.server
   pub clients : w.clients ≡ a.clients
   pub begun : w.begun ≡ a.begun
@@ -47,6 +51,7 @@ given_file (Some g) c f e = cc
 pub shows-mirrors : (a : Archive) (w : World) → Shows a w → Mirrors a w
 shows-mirrors a w h =
     record {
+      home = h.home;
       server = h.server;
       clients = h.clients;
       begun = h.begun;
@@ -70,6 +75,7 @@ pub shows-named : (position : Option ℕ) (d : Datagram) (a : Archive) (w : Worl
 shows-named (Some n) d a w h = h
 shows-named None d a w h =
     record {
+      home = h.home;
       server = h.server;
       clients = h.clients;
       begun = h.begun;
@@ -88,6 +94,14 @@ shows-named None d a w h =
 abbrev pub outs : (host : ℕ) → Option Out → List Datagram
 outs host None = []
 outs host (Some out) = datagram_of host out ∷ []
+
+-- the calls after a step send the datagram of the step and no other
+pub sent-calls : (host : ℕ) (closes : Bool) (port : ℕ) (out : Option Out) (replies : Replies) →
+    sent_in_calls host (step_calls closes port out replies) ≡ outs host out
+sent-calls host true port None replies = refl
+sent-calls host true port (Some out) replies = refl
+sent-calls host false port None replies = refl
+sent-calls host false port (Some out) replies = refl
 
 -- what was in the network stays there when one more is sent
 pushed : (old net : List Datagram) (x d : Datagram) → (Has old d → Has net d) → Has old d ⊎ (d ≡ x) → Has (net ++ x ∷ []) d
@@ -122,6 +136,7 @@ other_out host (Some out) old net strays others d has =
 abbrev pub with_answer : Table → Option Taken → List Datagram → Archive → Archive
 with_answer s took sent a =
     record {
+      home = a.home;
       server = s;
       clients = a.clients;
       begun = a.begun;
@@ -133,16 +148,19 @@ with_answer s took sent a =
 -- after a step of the server
 pub shows-served : (a : Archive) (w : World) → Shows a w → (x : table.TableAnswer) → IsApart x.server →
     (took : Option Taken) (opened : List Opening) →
-    Shows (with_answer x.server took (outs server_endpoint.host x.step.out) a)
-    (served (net_with server_endpoint.host w.net x.step.out) x.server (taken_with took w.taken) opened w)
+    Shows (with_answer x.server took (outs a.home.host x.step.out) a)
+    (served (net_with w.home.host w.net x.step.out) x.server (taken_with took w.taken) w.recovered opened w)
 shows-served a w h x apart took opened =
     record {
+      home = h.home;
       server = refl;
       clients = h.clients;
       begun = h.begun;
       taken = ap (taken_with took) h.taken;
-      net = has_out server_endpoint.host x.step.out a.net w.net h.net;
-      others = other_out server_endpoint.host x.step.out a.net w.net w.strays h.others;
+      net = λ d has. has_out w.home.host x.step.out a.net w.net h.net d (subst (λ (e : Endpoint). Has (a.net ++ outs e.host x.step.out) d) (sym h.home) has);
+      others = λ d has.
+          subst (λ (e : Endpoint). Has (a.net ++ outs e.host x.step.out) d ⊎ Has w.strays d) h.home
+          (other_out w.home.host x.step.out a.net w.net w.strays h.others d has);
       sent = h.sent;
       got = h.got;
       known = h.known;
@@ -154,6 +172,7 @@ pub shows-restart : (kept : Option (List Keeping)) (a : Archive) (w : World) →
 shows-restart kept a w h =
     let emptied : Table → Table = λ s. record { request = s.request; maps = s.maps; live = [] } in
     record {
+      home = h.home;
       server = ap emptied h.server;
       clients = h.clients;
       begun = h.begun;
@@ -166,12 +185,70 @@ shows-restart kept a w h =
       apart = All-nil (λ p. p ≢ a.server.request);
     }
 
+-- the archive after its server has ended with this file, and has started again
+abbrev pub with_end : Taken → Maps → List Datagram → Archive → Archive
+with_end t maps sent a =
+    record {
+      home = a.home;
+      server = record { request = a.server.request; maps = maps; live = [] };
+      clients = a.clients;
+      begun = a.begun;
+      taken = a.taken ++ t ∷ [];
+      net = a.net ++ sent;
+      kept = a.kept;
+    }
+
+-- after that, where this is what it has sent
+pub shows-ended : (a : Archive) (w : World) → Shows a w → (t : Taken) (maps : Maps) (d : Datagram) (out : Option Out) →
+    (table_datagram unkept maps d.target.port d.source d.bytes w.server).step.out ≡ out →
+    Shows (with_end t maps (outs a.home.host out) a) (ends true t maps d w)
+shows-ended a w h t maps d out is =
+    let sent = (table_datagram unkept maps d.target.port d.source d.bytes w.server).step.out in
+    let Sends : Endpoint → Option Out → Datagram → Type 0 = λ e o x. Has (a.net ++ outs e.host o) x in
+    record {
+      home = h.home;
+      server = ap (λ (s : Table). record { request = s.request; maps = maps; live = [] }) h.server;
+      clients = h.clients;
+      begun = h.begun;
+      taken = ap (λ (ts : List Taken). ts ++ t ∷ []) h.taken;
+      net = λ x has.
+          has_out w.home.host sent a.net w.net h.net x
+          (subst (λ (o : Option Out). Sends w.home o x) (sym is) (subst (λ (e : Endpoint). Sends e out x) (sym h.home) has));
+      others = λ x has.
+          subst (λ (e : Endpoint). Sends e out x ⊎ Has w.strays x) h.home
+          (subst (λ (o : Option Out). Sends w.home o x ⊎ Has w.strays x) is
+          (other_out w.home.host sent a.net w.net w.strays h.others x has));
+      sent = h.sent;
+      got = h.got;
+      known = h.known;
+      apart = All-nil (λ p. p ≢ a.server.request);
+    }
+
+-- an archive whose network is in another order, and whose keeper has another list
+pub shows-permuted : (a : Archive) (w : World) (net : List Datagram) (kept : Option (List Keeping)) → ((d : Datagram) → Has net d → Has a.net d) →
+    ((d : Datagram) → Has a.net d → Has net d) → Shows a w → Shows (record a { net = net; kept = kept }) w
+shows-permuted a w net kept into back h =
+    record {
+      home = h.home;
+      server = h.server;
+      clients = h.clients;
+      begun = h.begun;
+      taken = h.taken;
+      net = λ d has. h.net d (into d has);
+      others = λ d has. either (back d) (λ stray. stray) (h.others d has);
+      sent = h.sent;
+      got = h.got;
+      known = h.known;
+      apart = h.apart;
+    }
+
 -- ---- a client
 
 -- the archive after a step of a client
 abbrev pub with_client : Endpoint → Client → List Datagram → Archive → Archive
 with_client e next sent a =
     record {
+      home = a.home;
       server = a.server;
       clients = set_value (is_same e) a.clients next;
       begun = a.begun;
@@ -251,6 +328,7 @@ module _ (a : Archive) (w : World) (h : Shows a w) (e : Endpoint) (c : Client) (
   pub shows-client : Shows (with_client e x.client (outs e.host x.out) a) (after_client e c x w)
   shows-client =
       record {
+        home = h.home;
         server = h.server;
         clients = ap (λ (cs : List (Endpoint × Client)). set_value (is_same e) cs x.client) h.clients;
         begun = h.begun;
@@ -291,12 +369,13 @@ first_or false c k old e new later = later e
 module _ (a : Archive) (w : World) (h : Shows a w) (e : Endpoint) (operation : Operation) where
   -- its client
   abbrev pub begun_client : Client
-  begun_client = client_start e.port server_endpoint operation
+  begun_client = client_start e.port a.home operation
 
   -- the archive after that
   abbrev pub with_begun : Archive
   with_begun =
       record {
+        home = a.home;
         server = a.server;
         clients = (e, begun_client) ∷ a.clients;
         begun = a.begun ++ record { client = e; operation = operation; taken = length a.taken } ∷ [];
@@ -305,18 +384,28 @@ module _ (a : Archive) (w : World) (h : Shows a w) (e : Endpoint) (operation : O
         kept = a.kept;
       }
 
+  -- the request of a client of a server there
+  abbrev asks : Endpoint → List Datagram
+  asks home = outs e.host (Some (request_out operation (client_start e.port home operation)))
+
   -- after a begin
   pub shows-begin : Shows with_begun (begins e operation w)
   shows-begin =
+      let started : Endpoint → List (Endpoint × Client) → List (Endpoint × Client) = λ home cs. (e, client_start e.port home operation) ∷ cs in
       record {
+        home = h.home;
         server = h.server;
-        clients = ap (λ (cs : List (Endpoint × Client)). (e, begun_client) ∷ cs) h.clients;
+        clients = ap (λ (cs : List (Endpoint × Client)). started w.home cs) h.clients ∙ ap (λ (home : Endpoint). started home a.clients) h.home;
         begun =
             ap (λ (l : List Begun). l ++ record { client = e; operation = operation; taken = length w.taken } ∷ []) h.begun
             ∙ ap (λ (ts : List Taken). a.begun ++ record { client = e; operation = operation; taken = length ts } ∷ []) h.taken;
         taken = h.taken;
-        net = has_out e.host (Some (request_out operation begun_client)) a.net w.net h.net;
-        others = other_out e.host (Some (request_out operation begun_client)) a.net w.net w.strays h.others;
+        net = λ d has.
+            has_out e.host (Some (request_out operation (client_start e.port w.home operation))) a.net w.net h.net d
+            (subst (λ (home : Endpoint). Has (a.net ++ asks home) d) (sym h.home) has);
+        others = λ d has.
+            subst (λ (home : Endpoint). Has (a.net ++ asks home) d ⊎ Has w.strays d) h.home
+            (other_out e.host (Some (request_out operation (client_start e.port w.home operation))) a.net w.net w.strays h.others d has);
         sent = λ f k found sent.
             first_or (is_same f e) begun_client k (lookup (is_same f) a.clients) found
             (λ new. let running : state.Running ≡ state.Sent = ap state_of new ∙ sent in absurd cc)

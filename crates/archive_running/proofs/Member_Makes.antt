@@ -1,4 +1,5 @@
--- What a DATA of a put does to its receiver: it holds more of the file, or all of it, or waits as before.
+-- Each reception, time-out, restart or begin of an archive is one member of a trace, and then the world has what the archive
+-- has.
 use Rattle.std.proofs.Common.{◌≡◌, ◌≢◌, ◌⊎◌, ℕ, zero, suc, Bool, true, false, ◌==◌, ◌&&◌, List, [], ◌∷◌, ◌++◌, length, slice_get, Option, None, Some, is_some, refl, ap, sym, ◌∙◌, subst, inl, inr, true≢false}
 use Rattle.std.specs.Str.{bytes_eq}
 use Rattle.std.specs.Map.{lookup}
@@ -7,23 +8,24 @@ use Rattle.std.proofs.lemmas.Slice.Eq.{bytes_eq-Decides}
 use Rattle.tftp_packet.specs.declared.endpoint.Endpoint.{Endpoint}
 use Rattle.tftp_packet.specs.Decode.{decode_bytes}
 use Rattle.tftp_ends.specs.Ends.{Verdict, granted, refused}
-use Rattle.archive_table.specs.Table.{Table, Maps, Grant, Taken, TableAnswer, Merges, IsMerged, memory_verdict, is_same, transfer_at, table_request, table_datagram, table_timeout, empty_maps}
+use Rattle.archive_table.specs.Table.{Table, Maps, Grant, Taken, Transfer, TableAnswer, Merges, IsMerged, all, unkept, memory_verdict, is_same, transfer_at, datagram_at, table_request, table_datagram, table_timeout, empty_maps}
 use Rattle.archive_table.specs.Keeper.{Keeping}
 use Rattle.archive_client.specs.Client.{Operation, Client, client_datagram, client_timeout, is_too_long}
 use Rattle.archive_client.specs.Client as client
-use Rattle.archive_model.specs.World.{Datagram, World, server_endpoint, has_begun, asked_of, taken_with, after_request, after_transfer, after_client, client_receives, client_waits, begins, restarts, strays_in, AllMayHappen, MayDeliver, IsFree}
-use Rattle.archive_theorem.specs.Traces.{Member, server_waits_long, client_waits_long, starts, loads, is_same_datagram, position_after, position_of, named_in, server_comes, comes, after_deed, delivery, steps_with, member_steps, trace_from, DeedMerged}
+use Rattle.archive_model.specs.World.{Datagram, World, has_begun, asked_of, taken_with, after_request, after_transfer, after_client, client_receives, client_waits, begins, restarts, strays_in, wanted_at, wanted_of, ends, ends_if, unknown_keep, AllMayHappen, MayDeliver, MayEnd, IsFree}
+use Rattle.archive_theorem.specs.Traces.{Member, server_waits_long, client_waits_long, starts, loads, is_same_datagram, position_after, position_of, named_in, server_comes, comes, after_deed, at_place, delivery, steps_with, member_steps, trace_from, DeedMerged}
 use Rattle.archive_model.proofs.Places.{Has, at-last}
 use Rattle.archive_model.proofs.Endpoints.{same_endpoint}
 use Rattle.archive_theorem.proofs.Remaining.{timeout_leaves, decoded_leaves}
 use Rattle.archive_theorem.proofs.Totality.{not_more, one_last}
 use Rattle.archive_theorem.proofs.Tracing.{found_at}
-use Rattle.archive_running.specs.Members.{arrival, grant_for, reception, does}
+use Rattle.archive_running.specs.Members.{arrival, grant_for, reception, does, end_member}
 use Rattle.archive_running.specs.Archive.{Archive, IsStrangers, after_restart}
-use Rattle.archive_running.proofs.Fitting.{AllFit}
-use Rattle.archive_running.proofs.Ports.{request-apart, datagram-apart, timeout-apart}
-use Rattle.archive_running.proofs.Ended.{datagram-ends, timeout-ends}
-use Rattle.archive_running.proofs.Showing.{Shows, outs, with_answer, with_client, shows-named, shows-served, shows-restart, shows-client, shows-begin, with_begun}
+use Rattle.archive_running.proofs.Member_Fits.{AllFit}
+use Rattle.archive_running.proofs.Server_Ports.{request-apart, datagram-apart, timeout-apart}
+use Rattle.archive_running.proofs.Server_Ends.{Completes, refused_at}
+use Rattle.archive_running.proofs.Client_Ends.{datagram-ends, timeout-ends}
+use Rattle.archive_running.proofs.World_Shows.{Shows, outs, with_answer, with_client, with_end, shows-named, shows-ended, shows-served, shows-restart, shows-client, shows-begin, with_begun}
 use Rattle.archive_model.proofs.Entries.{strays_fits}
 
 -- these members may happen, and then the world has what this archive has
@@ -57,6 +59,14 @@ abbrev pub IsBrought : Datagram → Archive → Type 0
 IsBrought d a = Has a.net d ⊎ IsStrangers d a
 
 module _ (a : Archive) (w : World) (h : Shows a w) where
+  -- the server of both is on one host
+  at_home : {A : Type 0} (f : Bool → A) → f (a.home.host == w.home.host) ≡ f true
+  at_home f = ap f (eq-eqb a.home.host w.home.host (ap (λ (e : Endpoint). e.host) (sym h.home)))
+
+  -- what is on another host than the archive's server is on another than the world's
+  elsewhere : (e : Endpoint) → e.host ≢ a.home.host → e.host ≢ w.home.host
+  elsewhere e away ours = away (ours ∙ ap (λ (f : Endpoint). f.host) h.home)
+
   -- a datagram that the network brings, and that nobody has sent, is a stranger's
   strangers : (d : Datagram) → position_of d w.net ≡ None → IsBrought d a → IsStrangers d a
   strangers d none (inl old) =
@@ -66,20 +76,21 @@ module _ (a : Archive) (w : World) (h : Shows a w) where
 
   -- what the network brings may be delivered, or enter the network and then be delivered
   may_handle : (d : Datagram) (spare : ℕ) (grant : Grant) (maps : Maps) → IsBrought d a →
-      (d.target ≡ record { host = server_endpoint.host; port = w.server.request } → IsFree spare w) → (position : Option ℕ) →
+      (d.target ≡ record { host = w.home.host; port = w.server.request } → IsFree spare w) → (position : Option ℕ) →
       position_of d w.net ≡ position → AllMayHappen (steps_with grant maps (delivery position d spare w.net)) w
   may_handle d spare grant maps brought free (Some n) is =
       (record { datagram = d; is = found_at d w.net n is; spare_is = free }, tt)
   may_handle d spare grant maps brought free None is =
       let stranger = strangers d is brought in
       let unbegun : has_begun d.source w.begun ≡ false = h.known d.source ∙ ap is_some stranger.unbegun in
-      let entered = strays_fits w d stranger.away unbegun in
+      let away = elsewhere d.source stranger.away in
+      let entered = strays_fits w d away unbegun in
       let then : MayDeliver (length w.net) spare (strays_in d w) = record {
         datagram = d;
         is = at-last w.net d;
         spare_is = λ to. record { other = (free to).other; free = (free to).free };
       } in
-      ((stranger.away, unbegun), (subst (λ (v : World). MayDeliver (length w.net) spare v) (sym entered) then, tt))
+      ((away, unbegun), (subst (λ (v : World). MayDeliver (length w.net) spare v) (sym entered) then, tt))
 
   -- ---- the server
 
@@ -118,7 +129,7 @@ module _ (a : Archive) (w : World) (h : Shows a w) where
       (free : transfer_at spare a.server ≡ None) where
     -- the datagram
     abbrev request_d : Datagram
-    request_d = arrival server_endpoint.host a.server.request from bytes
+    request_d = arrival a.home.host a.server.request from bytes
 
     -- the world once the datagram is in the network
     abbrev request_v : World
@@ -130,10 +141,10 @@ module _ (a : Archive) (w : World) (h : Shows a w) where
 
     -- its delivery is that step, in any world with this server
     request_is : (v : World) → v.server ≡ a.server →
-        server_comes (a.server.request == v.server.request) spare (grant_for verdict) empty_maps request_d v ≡ after_request from spare
-        (asked_of bytes) request_x v
+        comes (a.home.host == w.home.host) spare (grant_for verdict) empty_maps request_d v ≡ after_request from spare (asked_of bytes) request_x v
     request_is v same =
-        ap (λ (s : Table). server_comes (a.server.request == s.request) spare (grant_for verdict) empty_maps request_d v) same
+        at_home (λ (ours : Bool). comes ours spare (grant_for verdict) empty_maps request_d v)
+        ∙ ap (λ (s : Table). server_comes (a.server.request == s.request) spare (grant_for verdict) empty_maps request_d v) same
         ∙ ap (λ (b : Bool). server_comes b spare (grant_for verdict) empty_maps request_d v) (eq-eqb a.server.request a.server.request refl)
         ∙ ap (λ (s : Table). after_request from spare (asked_of bytes) (table_request (memory_verdict (grant_for verdict)) spare from bytes s) v) same
         ∙ ap (λ (m : Verdict). after_request from spare (asked_of bytes) (table_request m spare from bytes a.server) v) (memory_is verdict)
@@ -148,7 +159,7 @@ module _ (a : Archive) (w : World) (h : Shows a w) where
 
     -- a request that the network brings
     pub request-makes : IsBrought request_d a →
-        Makes (with_answer request_x.server request_x.step.taken (outs server_endpoint.host request_x.step.out) a)
+        Makes (with_answer request_x.server request_x.step.taken (outs a.home.host request_x.step.out) a)
         (reception request_d spare (grant_for verdict) empty_maps ∷ []) w
     request-makes brought =
         let position = position_of request_d w.net in
@@ -160,12 +171,12 @@ module _ (a : Archive) (w : World) (h : Shows a w) where
         let shows = shows-served a request_v shown request_x (request-apart spare from a.server h.apart other verdict bytes) None _ in
         one_made _ m after is (may_handle request_d spare m.grant m.maps brought (λ to. is_free) position refl)
         (deed_merged m after is None (named_taken position request_d) leaves.1)
-        (subst (λ (o : Option Taken). Shows (with_answer request_x.server o (outs server_endpoint.host request_x.step.out) a) after) (sym leaves.0) shows)
+        (subst (λ (o : Option Taken). Shows (with_answer request_x.server o (outs a.home.host request_x.step.out) a) after) (sym leaves.0) shows)
 
   module _ (port : ℕ) (from : Endpoint) (bytes : List ℕ) (grant : Grant) (maps : Maps) (other : port ≢ a.server.request) where
     -- the datagram
     abbrev transfer_d : Datagram
-    transfer_d = arrival server_endpoint.host port from bytes
+    transfer_d = arrival a.home.host port from bytes
 
     -- the world once the datagram is in the network
     abbrev transfer_v : World
@@ -176,14 +187,16 @@ module _ (a : Archive) (w : World) (h : Shows a w) where
     transfer_x = table_datagram grant maps port from bytes a.server
 
     -- its delivery is that step, in any world with this server
-    transfer_is : (v : World) → v.server ≡ a.server → server_comes (port == v.server.request) 0 grant maps transfer_d v ≡ after_transfer transfer_x v
+    transfer_is : (v : World) → v.server ≡ a.server →
+        comes (a.home.host == w.home.host) 0 grant maps transfer_d v ≡ after_transfer transfer_x v
     transfer_is v same =
-        ap (λ (s : Table). server_comes (port == s.request) 0 grant maps transfer_d v) same
+        at_home (λ (ours : Bool). comes ours 0 grant maps transfer_d v)
+        ∙ ap (λ (s : Table). server_comes (port == s.request) 0 grant maps transfer_d v) same
         ∙ ap (λ (b : Bool). server_comes b 0 grant maps transfer_d v) (ne_eqb port a.server.request other)
         ∙ ap (λ (s : Table). after_transfer (table_datagram grant maps port from bytes s) v) same
 
     -- it does not arrive at the request port
-    not_request : transfer_d.target ≡ record { host = server_endpoint.host; port = w.server.request } → ⊥
+    not_request : transfer_d.target ≡ record { host = w.home.host; port = w.server.request } → ⊥
     not_request to = other (ap (λ (e : Endpoint). e.port) to ∙ ap (λ (s : Table). s.request) h.server)
 
     -- the files taken are those before and what the step takes
@@ -192,7 +205,7 @@ module _ (a : Archive) (w : World) (h : Shows a w) where
 
     -- a datagram at a transfer's port that the network brings
     pub transfer-makes : IsBrought transfer_d a → Merges transfer_x.step.taken a.server.maps transfer_x.server.maps →
-        Makes (with_answer transfer_x.server transfer_x.step.taken (outs server_endpoint.host transfer_x.step.out) a) (reception transfer_d 0 grant maps ∷ []) w
+        Makes (with_answer transfer_x.server transfer_x.step.taken (outs a.home.host transfer_x.step.out) a) (reception transfer_d 0 grant maps ∷ []) w
     transfer-makes brought merges =
         let position = position_of transfer_d w.net in
         let m = reception transfer_d 0 grant maps in
@@ -203,10 +216,63 @@ module _ (a : Archive) (w : World) (h : Shows a w) where
         (deed_merged m after is transfer_x.step.taken (taken_more position) merges)
         (shows-served a transfer_v shown transfer_x (datagram-apart port a.server h.apart grant maps from bytes) transfer_x.step.taken _)
 
+  -- a datagram with which the server ends, as it cannot know whether its file was kept
+  module _ (port : ℕ) (from : Endpoint) (bytes : List ℕ) (t : Taken) (maps : Maps) (tr : Transfer) (there : transfer_at port a.server ≡ Some tr)
+      (other : port ≢ a.server.request) (c : Completes tr port from bytes t) where
+    -- the datagram
+    abbrev end_d : Datagram
+    end_d = arrival a.home.host port from bytes
+
+    -- in a world with this server it completes the file
+    end_wants : (v : World) → Shows a v → wanted_of (a.home.host == v.home.host) end_d v ≡ Some t
+    end_wants v shown =
+        ap (λ (ours : Bool). wanted_of ours end_d v) (eq-eqb a.home.host v.home.host (ap (λ (e : Endpoint). e.host) (sym shown.home)))
+        ∙ ap (λ (s : Table). wanted_at (port == s.request) end_d (record v { server = s })) shown.server
+        ∙ ap (λ (b : Bool). wanted_at b end_d (record v { server = a.server })) (ne_eqb port a.server.request other)
+        ∙ ap (λ (o : Option Transfer). (datagram_at o all a.server.maps port from bytes a.server).step.taken) there
+        ∙ c.takes a.server.maps a.server
+
+    -- and the answer is that it is not kept
+    end_answers : (v : World) → Shows a v → (table_datagram unkept maps port from bytes v.server).step.out ≡ (refused_at port tr a.server).step.out
+    end_answers v shown =
+        ap (λ (s : Table). (table_datagram unkept maps port from bytes s).step.out) shown.server
+        ∙ ap (λ (o : Option Transfer). (datagram_at o unkept maps port from bytes a.server).step.out) there
+        ∙ ap (λ (x : TableAnswer). x.step.out) (c.refuses maps a.server)
+
+    end_may : IsBrought end_d a → (position : Option ℕ) → position_of end_d w.net ≡ position →
+        AllMayHappen (steps_with all maps (at_place position end_d (λ index. unknown_keep index true) w.net)) w
+    end_may brought (Some n) is =
+        (record { datagram = end_d; is = found_at end_d w.net n is; file = t; completes = end_wants w h }, tt)
+    end_may brought None is =
+        let stranger = strangers end_d is brought in
+        let unbegun : has_begun end_d.source w.begun ≡ false = h.known end_d.source ∙ ap is_some stranger.unbegun in
+        let away = elsewhere end_d.source stranger.away in
+        let entered = strays_fits w end_d away unbegun in
+        let then : MayEnd (length w.net) (strays_in end_d w) = record {
+          datagram = end_d;
+          is = at-last w.net end_d;
+          file = t;
+          completes = end_wants (strays_in end_d w) (shows-named None end_d a w h);
+        } in
+        ((away, unbegun), (subst (λ (v : World). MayEnd (length w.net) v) (sym entered) then, tt))
+
+    pub ends-makes : IsBrought end_d a → IsMerged t.file a.server.maps maps →
+        Makes (with_end t maps (outs a.home.host (refused_at port tr a.server).step.out) a) (end_member end_d maps ∷ []) w
+    ends-makes brought merged =
+        let position = position_of end_d w.net in
+        let m = end_member end_d maps in
+        let v = named_in position end_d w in
+        let shown = shows-named position end_d a w h in
+        let after = ends true t maps end_d v in
+        let is : after_deed m.deed m.grant m.maps w ≡ after = ap (λ (o : Option Taken). ends_if o true maps end_d v) (end_wants v shown) in
+        one_made _ m after is (end_may brought position refl)
+        (deed_merged m after is (Some t) (ap (λ (ts : List Taken). ts ++ t ∷ []) (named_taken position end_d)) merged)
+        (shows-ended a v shown t maps end_d (refused_at port tr a.server).step.out (end_answers v shown))
+
   -- a time-out of a port of the server
   pub timeout-makes : (port : ℕ) →
       let x = table_timeout port a.server in
-      Makes (with_answer x.server None (outs server_endpoint.host x.step.out) a) (does (server_waits_long port) ∷ []) w
+      Makes (with_answer x.server None (outs a.home.host x.step.out) a) (does (server_waits_long port) ∷ []) w
   timeout-makes port =
       let x = table_timeout port a.server in
       let m = does (server_waits_long port) in
@@ -216,7 +282,7 @@ module _ (a : Archive) (w : World) (h : Shows a w) where
       let shows = shows-served a w h x (timeout-apart port a.server h.apart) x.step.taken _ in
       one_made _ m after is (tt, tt)
       (deed_merged m after is None (ap (λ (o : Option Taken). taken_with o w.taken) leaves.0) leaves.1)
-      (subst (λ (o : Option Taken). Shows (with_answer x.server o (outs server_endpoint.host x.step.out) a) after) leaves.0 shows)
+      (subst (λ (o : Option Taken). Shows (with_answer x.server o (outs a.home.host x.step.out) a) after) leaves.0 shows)
 
   -- a restart with the same collections
   pub restart-makes : (kept : Option (List Keeping)) → Makes (after_restart a.server.maps kept a) (does loads ∷ []) w
@@ -227,15 +293,15 @@ module _ (a : Archive) (w : World) (h : Shows a w) where
   -- ---- a client
 
   -- an operation begins
-  pub begin-makes : (e : Endpoint) (operation : Operation) → e.host ≢ server_endpoint.host → is_too_long operation ≡ false →
+  pub begin-makes : (e : Endpoint) (operation : Operation) → e.host ≢ a.home.host → is_too_long operation ≡ false →
       Makes (with_begun a w h e operation) (does (starts e operation) ∷ []) w
   begin-makes e operation away short =
       let m = does (starts e operation) in
-      one_made _ m (begins e operation w) refl ((away, short), tt)
+      one_made _ m (begins e operation w) refl ((elsewhere e away, short), tt)
       (deed_merged m (begins e operation w) refl None refl (ap (λ (s : Table). s.maps) h.server))
       (shows-begin a w h e operation)
 
-  module _ (e : Endpoint) (c : Client) (away : e.host ≢ server_endpoint.host) (is : lookup (is_same e) a.clients ≡ Some c) where
+  module _ (e : Endpoint) (c : Client) (away : e.host ≢ a.home.host) (is : lookup (is_same e) a.clients ≡ Some c) where
     module _ (from : Endpoint) (bytes : List ℕ) (verdict : Verdict) where
       -- the datagram
       abbrev client_d : Datagram
@@ -251,15 +317,15 @@ module _ (a : Archive) (w : World) (h : Shows a w) where
 
       -- its delivery is that step, in any world with these clients
       client_is : (v : World) → v.clients ≡ a.clients →
-          comes (e.host == server_endpoint.host) 0 (grant_for verdict) empty_maps client_d v ≡ after_client e c client_x v
+          comes (e.host == w.home.host) 0 (grant_for verdict) empty_maps client_d v ≡ after_client e c client_x v
       client_is v same =
-          ap (λ (b : Bool). comes b 0 (grant_for verdict) empty_maps client_d v) (ne_eqb e.host server_endpoint.host away)
+          ap (λ (b : Bool). comes b 0 (grant_for verdict) empty_maps client_d v) (ne_eqb e.host w.home.host (elsewhere e away))
           ∙ ap (λ (o : Option Client). client_receives o (grant_for verdict) client_d v) (ap (lookup (is_same e)) same ∙ is)
           ∙ ap (λ (m : Verdict). after_client e c (client_datagram m from bytes c) v) (memory_is verdict)
 
       -- it does not arrive at the server's request port
-      not_server : client_d.target ≡ record { host = server_endpoint.host; port = w.server.request } → ⊥
-      not_server to = away (ap (λ (f : Endpoint). f.host) to)
+      not_server : client_d.target ≡ record { host = w.home.host; port = w.server.request } → ⊥
+      not_server to = elsewhere e away (ap (λ (f : Endpoint). f.host) to)
 
       -- a datagram for a client that the network brings
       pub client-makes : IsBrought client_d a →
