@@ -20,7 +20,7 @@ use Rattle.archive_world.specs.Replays.{Makes}
 use Rattle.archive_world.specs.Exits.{StaysThere, Comes}
 use Rattle.archive_model.proofs.Growing.{step-extends}
 use Rattle.archive_theorem.proofs.Server_Port.{run_same}
-use Rattle.archive_theorem.proofs.Headline_Collections.{best-collected}
+use Rattle.tws_best.proofs.Collections.{best-collected}
 use Rattle.archive_theorem.proofs.Headline_Remains.{Remain, begins_remain, waits_remain, strays_remain, timeout_leaves}
 use Rattle.archive_theorem.proofs.Port_Tests.{begin-keeps_own, stray-keeps_own}
 use Rattle.archive_theorem.proofs.Headline_Total.{not_more}

@@ -19,7 +19,8 @@ use Rattle.archive_theorem.specs.Headline.{HasOwnPorts}
 use Rattle.archive_theorem.proofs.Claim_Invariant.{AreBest}
 use Rattle.archive_theorem.proofs.Headline_Remains.{TakesOrLeaves, found_takes}
 use Rattle.archive_theorem.proofs.Headline_Total.{not_more, one_last}
-use Rattle.archive_theorem.proofs.Headline_Collections.{best-collected, step-best}
+use Rattle.tws_best.proofs.Collections.{best-collected}
+use Rattle.archive_theorem.proofs.Headline_Collections.{step-best}
 use Rattle.archive_theorem.proofs.Keeper_Loads.{step-stays_kept}
 use Rattle.archive_theorem.proofs.Keeper_Runs.{own-ruleset}
 use Rattle.archive_world.specs.declared.event_fault.EventFault.{EventFault}
