@@ -1,7 +1,8 @@
 #!/usr/bin/env python3
 """Checks the documents: `names`, that what they cite in backticks and link to is in the tree; `callers`, that the
 callers that they quote are those of the crate `uses`; `sessions`, that a shell prints what they say. The arguments say
-which of these, by default all. The last line is 'N passed, M failed'."""
+which of these, by default all. The last line is 'N passed, M failed, K skipped': a session of a program that is not built
+is skipped."""
 import functools
 import os
 import queue
@@ -27,10 +28,13 @@ FOREIGN_FILES = {
     "20261127T091501.004Z-127.0.0.1-5000-lynx.tws", "20261127T091501.004Z-203.0.113.7-5000-lynx.tws",
 }
 
-# Options of other programs, by the program.
+# Options of other programs, and of `check`.
 FOREIGN_OPTIONS = set("""
---backend --branch-sim --dump-instr --fix-imports --incremental --jobs --only --option --test --tftp-no-options --tool
+--quick --backend --branch-sim --dump-instr --fix-imports --incremental --jobs --only --option --test --tftp-no-options --tool
 """.split())
+
+# The programs that sessions run, each with what the commands that need it have in them.
+PROGRAMS = {"tws": r"\btws ", "replay_schedule": r"\./replay_schedule|draw\.py"}
 
 EXTENSIONS = (".antt", ".bash", ".c", ".edit", ".h", ".md", ".py", ".rt", ".tws", ".txt")
 NAME = r"[A-Za-z_][\w-]*"
@@ -139,7 +143,7 @@ def files():
     """All files of the tree but those that are built."""
     found = []
     for folder, folders, names in os.walk("."):
-        folders[:] = [name for name in folders if name not in (".git", "out", "__pycache__")]
+        folders[:] = [name for name in folders if name not in (".git", "dist", "out", "__pycache__")]
         found += [os.path.normpath(os.path.join(folder, name)) for name in sorted(names)]
     return found
 
@@ -147,7 +151,7 @@ def files():
 @functools.cache
 def options():
     """The options of the program, by its command line."""
-    sources = [path.read_text() for crate in ("show_commands", "file_commands", "tws_tool") for path in Path(f"crates/{crate}/src").rglob("*.rt")]
+    sources = [path.read_text() for crate in ("show_commands", "file_commands", "archive_commands", "tws_tool") for path in Path(f"crates/{crate}/src").rglob("*.rt")]
     names = re.compile(r'(?:\.long\(|(?:number|text)_argument\(\s*alloc,)\s*"([\w-]+)"')
     return {f"--{name}" for text in sources for name in names.findall(text)} | {"--help", "--version"}
 
@@ -307,7 +311,7 @@ def check_names():
         else:
             failed += 1
             print(f"{document}:{number}: not in the tree: {span}")
-    return passed, failed
+    return passed, failed, 0
 
 
 def flat(text):
@@ -326,7 +330,17 @@ def check_callers():
             else:
                 failed += 1
                 print(f"{document}: its caller is not in crates/uses")
-    return passed, failed
+    return passed, failed, 0
+
+
+def built(program):
+    return Path(f"crates/{program}/out/{program}")
+
+
+def is_runnable(steps):
+    """Whether the programs of a session are built."""
+    lacking = [needed for program, needed in PROGRAMS.items() if not built(program).exists()]
+    return not any(re.search(needed, command) for needed in lacking for command, _ in steps)
 
 
 class Shell:
@@ -334,8 +348,8 @@ class Shell:
     these scripts."""
 
     def __init__(self, folder):
-        for name in ("tws", "replay_schedule"):
-            os.symlink(Path(f"crates/{name}/out/{name}").resolve(), Path(folder, name))
+        for name in PROGRAMS:
+            os.symlink(built(name).resolve(), Path(folder, name))
         for name in ("examples", "system_tests"):
             os.symlink(Path(name).resolve(), Path(folder, name))
         self.process = subprocess.Popen(
@@ -391,9 +405,12 @@ def sessions_in(document):
 
 def check_sessions():
     """Each session prints what the document says. They use the default port."""
-    passed = failed = 0
+    passed = failed = skipped = 0
     for document in documents():
         for steps in sessions_in(document):
+            if not is_runnable(steps):
+                skipped += 1
+                continue
             with tempfile.TemporaryDirectory() as folder:
                 shell = Shell(folder)
                 for command, wanted in steps:
@@ -405,14 +422,14 @@ def check_sessions():
                     print(f"{document}: $ {command}", *printed, sep="\n")
                     break
                 shell.end()
-    return passed, failed
+    return passed, failed, skipped
 
 
 def main():
     parts = {"names": check_names, "callers": check_callers, "sessions": check_sessions}
     counts = [parts[name]() for name in sys.argv[1:] or parts]
-    passed, failed = (sum(column) for column in zip(*counts))
-    print(f"{passed} passed, {failed} failed")
+    passed, failed, skipped = (sum(column) for column in zip(*counts))
+    print(f"{passed} passed, {failed} failed, {skipped} skipped")
     return 1 if failed else 0
 
 

@@ -46,6 +46,8 @@ def news(before, after):
         yield f"the server opens port {port} for a {'put' if asked == 'write' else 'get'}"
     for _, _, file in new("taken"):
         yield f"the server takes the file, {size(file)}"
+    for _ in new("recovered"):
+        yield "its client is told that it was not kept"
     for _ in new("sent"):
         yield "the client counts its file as sent"
     for _, _, file in new("got"):
@@ -58,7 +60,7 @@ class Drawing:
     def __init__(self, events):
         self.events = events
         self.datagrams = outcome(events).get("datagram", [])
-        self.delivered = {int(words[1]) for words in events if words[0] == "deliver"}
+        self.delivered = {int(words[1]) for words in events if words[0] in ("deliver", "unknown-keep")}
         self.ends = []
         clients = [words[2:4] for words in events if words[0] == "begin"]
         for words in events:
@@ -95,6 +97,9 @@ class Drawing:
             self.row(f"a {what} begins at {words[2]}:{words[3]}")
         elif words[0] == "deliver":
             self.arrow(int(words[1]), note, True)
+        elif words[0] == "unknown-keep":
+            self.arrow(int(words[1]), note, True)
+            self.row("it is not known whether the file was kept; the server restarts")
         elif words[0] == "client-timeout":
             self.row(f"a time-out at {words[1]}:{words[2]}")
         elif words[0] == "server-timeout":

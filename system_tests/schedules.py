@@ -62,6 +62,7 @@ WORDS = {
     "RRQ_MS": b"\0\1ms.tws\0octet\0",
     "UNKNOWN_TRANSFER": b"\0\5\0\5unknown transfer\0",
     "BUSY": b"\0\5\0\0server busy\0",
+    "NOT_KEPT": b"\0\5\0\0not kept\0",
     "OTHER_MODE": b"\0\5\0\0octet only\0",
     "OTHER_NAME": b"\0\5\0\1no such file\0",
     # A request in mode `OCTET`, with an option after it.
@@ -471,6 +472,46 @@ datagram BOB SECOND ACK_1
         PUT.replace("deliver 3 0\n", "restart\n"),
         PUT_LEFT.replace("sent ALICE\n", ""),
     ),
+    # The client is told that its file was not kept, and the restart finds it: another client fetches it.
+    (
+        "a keep with an unknown outcome, which is found",
+        PUT.replace("deliver 2 0\n", "unknown-keep 2 found\n") + "begin get BOB lynx\ndeliver 4 4001\ndeliver 5 0\n",
+        """taken ALICE HUNDRED
+recovered ALICE HUNDRED
+got BOB HUNDRED
+opened ALICE 4000 write 0
+opened BOB 4001 lynx 1
+lynx HUNDRED
+ms EMPTY_MS
+datagram ALICE SERVER WRQ
+datagram FIRST ALICE ACK_0
+datagram ALICE FIRST HUNDRED_1
+datagram FIRST ALICE NOT_KEPT
+datagram BOB SERVER RRQ_LYNX
+datagram SECOND BOB HUNDRED_1
+datagram BOB SECOND ACK_1
+""",
+    ),
+    # The restart does not find it. The client that puts it again has it taken.
+    (
+        "a keep with an unknown outcome, which is lost",
+        PUT.replace("deliver 2 0\n", "unknown-keep 2 lost\n")
+        + "begin put BOB HUNDRED\ndeliver 4 4001\ndeliver 5 0\ndeliver 6 0\n",
+        """taken BOB HUNDRED
+opened ALICE 4000 write 0
+opened BOB 4001 write 0
+lynx HUNDRED
+ms EMPTY_MS
+datagram ALICE SERVER WRQ
+datagram FIRST ALICE ACK_0
+datagram ALICE FIRST HUNDRED_1
+datagram FIRST ALICE NOT_KEPT
+datagram BOB SERVER WRQ
+datagram SECOND BOB ACK_0
+datagram BOB SECOND HUNDRED_1
+datagram SECOND BOB ACK_1
+""",
+    ),
     # A time-out of a port without a transfer, and a datagram for an endpoint without a client.
     (
         "events that change nothing",
@@ -483,6 +524,15 @@ datagram BOB SECOND ACK_1
     ("a delivery of what was not sent, after a file was taken", PUT.replace("deliver 3", "deliver 4"), "bad event 4\n"),
     ("a spare port with a transfer", "begin put ALICE HUNDRED\ndeliver 0 4000\ndeliver 0 4000\n", "bad event 2\n"),
     ("the request port as a spare one", "begin put ALICE HUNDRED\ndeliver 0 6969\n", "bad event 1\n"),
+    ("a keep of what was not sent", "unknown-keep 0 found\n", "bad event 0\n"),
+    ("a keep at the request port", "begin put ALICE HUNDRED\nunknown-keep 0 found\n", "bad event 1\n"),
+    ("a keep at a client", "begin put ALICE HUNDRED\ndeliver 0 4000\nunknown-keep 1 lost\n", "bad event 2\n"),
+    ("a keep of a block that is not the last", SLOW_PUT.replace("deliver 2 0", "unknown-keep 2 found"), "bad event 3\n"),
+    (
+        "a keep of a file that changes no collection",
+        PUT.replace("HUNDRED", "UNREADABLE").replace("deliver 2 0", "unknown-keep 2 lost"),
+        "bad event 3\n",
+    ),
     ("a client at the request port", "begin get SERVER lynx\n", "bad event 0\n"),
     ("a client at the server's host", "begin get 1 5000 lynx\n", "bad event 0\n"),
     ("a time-out where no client is", "begin put ALICE HUNDRED\nclient-timeout BOB\n", "bad event 1\n"),
@@ -695,6 +745,7 @@ class Outcome:
     """Each list in the order in which things happened. An endpoint is its host and port."""
 
     taken: list = field(default_factory=list)
+    recovered: list = field(default_factory=list)
     sent: list = field(default_factory=list)
     got: list = field(default_factory=list)
     opened: list = field(default_factory=list)
@@ -714,8 +765,8 @@ def outcome_of(text):
         match kind, words:
             case ("bad" | "port" | "not"), [_, number]:
                 return int(number)
-            case "taken", [host, port, file]:
-                left.taken.append(((int(host), int(port)), data(file)))
+            case ("taken" | "recovered"), [host, port, file]:
+                getattr(left, kind).append(((int(host), int(port)), data(file)))
             case "sent", [host, port]:
                 left.sent.append((int(host), int(port)))
             case "got", [host, port, file]:
@@ -794,6 +845,12 @@ def broken_promise(events, left):
     for end in left.sent:
         if not any(peer == end and is_put_of(end, file) for peer, file in left.taken):
             return "exactly once if counted as sent"
+    told = [to for _, to, content in left.datagrams if content == WORDS["NOT_KEPT"]]
+    unknown = [event.split()[2] for event in events if event.startswith("unknown-keep ")]
+    if len(told) != len(unknown) or len(left.recovered) != unknown.count("found"):
+        return "answered as not kept, and found or lost"
+    if any(it not in left.taken or it[0] not in told for it in left.recovered):
+        return "taken although the client was told that it was not kept"
     files = [file for _, file in left.taken]
     if any(collection(rules, files) != text for rules, text in left.texts.items()):
         return "best of"
@@ -813,7 +870,7 @@ def broken_promise(events, left):
 
 class List:
     """A list that is being drawn: six operations at six endpoints, whose datagrams are mostly delivered, and now and then lost,
-    repeated or overtaken; time-outs, strangers' datagrams and restarts."""
+    repeated or overtaken; time-outs, strangers' datagrams, restarts, and keeps whose outcome is unknown."""
 
     def __init__(self, seed):
         self.draws = random.Random(seed)
@@ -882,6 +939,8 @@ class List:
         if self.once_in(12):
             self.gone.add(index)
             return None
+        if self.once_in(15):
+            return f"unknown-keep {index} {self.draws.choice(['found', 'lost'])}"
         return self.deliver(index)
 
     def settled(self):
@@ -918,6 +977,8 @@ def tried(seed):
         "got": len(left.got),
         "strangers' files": sum(host >= STRANGERS for (host, _), _ in left.taken),
         "restarts": events.count("restart"),
+        "found keeps": len(left.recovered),
+        "lost keeps": sum(it.startswith("unknown-keep") and it.endswith("lost") for it in events),
         "events": len(events),
     }
     return broken_promise(events, left), events, happened
@@ -955,6 +1016,7 @@ def main():
             total = {name: total.get(name, 0) + count for name, count in happened.items()} | {"events": longest}
     check("the longest list", total["events"] == EVENTS)
     least = {"puts": 2000, "gets": 1000, "sent": total["puts"] // 2, "got": total["gets"] // 2, "strangers' files": 100, "restarts": 100}
+    least |= {"found keeps": 50, "lost keeps": 50}
     for name, count in least.items():
         check(f"{total[name]} {name}", total[name] > count)
     print(f"{passed} passed, {failed} failed, 0 skipped")

@@ -1,3 +1,4 @@
 pub mod Machine
 pub mod Bounds
 pub mod LastAck
+pub mod Patience

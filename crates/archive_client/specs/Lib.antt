@@ -1,2 +1,3 @@
 pub mod Client
 pub mod View
+pub mod Patience

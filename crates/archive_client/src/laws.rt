@@ -1,10 +1,12 @@
 //! What holds for every client, whatever it receives. These functions do nothing: each contract is a theorem.
 
-ghost use Rattle.std.specs.Prelude.{◌≡◌, ◌≢◌, ℕ, List, true};
+ghost use Rattle.std.specs.Prelude.{◌≡◌, ◌≢◌, ◌+◌, ◌*◌, ◌≤◌, ℕ, List, true};
 ghost use Rattle.tftp_packet.specs.declared.endpoint.Endpoint.{Endpoint};
 ghost use Rattle.tftp_ends.specs.Ends.{Verdict};
+ghost use Rattle.tftp_ends.specs.declared.limits.TheConstants.{MISSES};
 ghost use Rattle.byte_output.specs.Bytes.{IsBytes};
 ghost use Rattle.archive_client.specs.declared.state.State.TheVariants.{Sent};
+ghost use Rattle.archive_client.specs.Patience.{ClientEvent, client_run, AreBytes, time_outs, most_blocks, IsPatient};
 ghost use Rattle.archive_client.specs.Client.{Operation, Client, IsOperation, IsClient, client_start, IsBoundTo, IsBoundToStill, IsLastAck, state_of, is_over, client_stays, client_datagram, client_timeout};
 
 /// Once a client is over, and so once it has failed, no datagram and no time-out changes it or makes it send.
@@ -42,4 +44,12 @@ pub fn last_ack()
     ensures datagram { (verdict : Verdict) (from : Endpoint) (bytes : List ℕ) (c : Client) →
         state_of c ≢ Sent → state_of (client_datagram verdict from bytes c).client ≡ Sent → IsLastAck c.phase from bytes }
     ensures timeout { (c : Client) → state_of c ≢ Sent → state_of (client_timeout c).client ≢ Sent }
+{}
+
+/// Every client ends by itself. Whatever arrives, a client that is not over has had fewer than `MISSES` time-outs, and `MISSES`
+/// for each block that it has sent or received meanwhile; so after `MISSES` for each block, and `MISSES` for its request, it is over.
+pub fn client_patience()
+    ensures waits { (c : Client) (events : List ClientEvent) → IsClient c → AreBytes events → IsPatient c events }
+    ensures ends { (port : ℕ) (server : Endpoint) (operation : Operation) (events : List ClientEvent) → IsOperation operation → AreBytes events →
+        MISSES * (most_blocks operation + 1) ≤ time_outs events → is_over (client_run events (client_start port server operation)) ≡ true }
 {}

@@ -1,2 +1,1 @@
-mod Changes
 mod Recording

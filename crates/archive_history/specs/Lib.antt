@@ -1,4 +1,3 @@
 pub mod Times
 pub mod HistoryFault
 pub mod History
-pub mod MemoryHistory

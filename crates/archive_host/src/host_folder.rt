@@ -1,16 +1,16 @@
 //! A folder of the system.
 
-ghost use Rattle.std.specs.Prelude.{◌≡◌, ◌≤◌, codes, false, None, Some, IfOk, OnErr, IsSome};
-ghost use Rattle.std.specs.Path.{path_buf_bytes, path_join};
+ghost use Rattle.std.specs.Prelude.{◌≡◌, ◌≤◌, false, None, Some, IfOk, OnErr, IsSome, string_bytes};
 ghost use Rattle.byte_output.specs.Failures.{Rises};
 
+use crate::folder_path::FolderPath;
 use crate::host_file::HostFile;
-use crate::paths::Paths;
-use archive_keepers::{FileName, Folder, FolderKeeper};
-use archive_table::KeepFault;
+use archive_keepers::FolderKeeper;
+use folders::{CallFault, Folder};
 use std::alloc::Allocator;
 use std::fs::{File, Metadata, OpenOptions, Permissions, TryLockError};
 use std::io::{ErrorKind, Read};
+use std::path::Path;
 use std::rt::Files;
 use std::{fs, io};
 use thiserror::Error;
@@ -32,32 +32,26 @@ pub enum OpenFault {
 /// A keeper over a folder of the system.
 pub type DirKeeper<R> = FolderKeeper<HostFolder<R>>;
 
-/// A folder of the system, which is locked while it is open. It has the collections as `lynx.tws` and `ms.tws`, and the
-/// drafts as `lynx.new` and `ms.new`. A draft gets the permissions of the file that it replaces. A collection that is no
-/// regular file, such as a symbolic link, is refused without opening it. It has no model.
+/// A folder of the system. A new file gets the permissions of the file that it replaces; one that is no regular file,
+/// such as a symbolic link, is neither replaced nor opened. It has no model.
 #[derive(Drop)]
 pub struct HostFolder<R: Files<File = File> + AllocGlobal + Copy> {
     rt: R,
-    paths: Paths,
-    // The folder itself, which holds the lock.
+    // The path of the file that a call is for, and of the one that it is to replace.
+    path: FolderPath,
+    target: FolderPath,
+    // The folder itself, which is synced, and holds the lock.
     folder: File,
     faults: u64,
     error: Option<io::Error>,
 }
 
-// The file that a file replaces or is.
-fn kept(name: FileName) -> FileName {
-    match name {
-        FileName::Kept(ruleset) | FileName::Draft(ruleset) => FileName::Kept(ruleset),
-    }
-}
-
 // The fault for an error of the system or of std. Only errors raised by std itself lack an OS error code.
-fn fault_of(e: &io::Error) -> KeepFault {
+fn fault_of(e: &io::Error) -> CallFault {
     if e.kind() == ErrorKind::OutOfMemory && e.raw_os_error().is_none() {
-        KeepFault::Memory
+        CallFault::Memory
     } else {
-        KeepFault::Device
+        CallFault::Device
     }
 }
 
@@ -69,35 +63,90 @@ fn open_folder<R: Files<File = File>>(rt: &R, dir: &str) -> io::Result<File> {
     fs::open(rt, dir)
 }
 
+// What the system knows of a file, if there is one.
+fn metadata<R: Files<File = File>>(rt: &R, path: Path<'_>) -> io::Result<Option<Metadata>> {
+    match fs::symlink_metadata(rt, path) {
+        Ok(metadata) => Ok(Some(metadata)),
+        Err(e) => {
+            if e.kind() == ErrorKind::NotFound {
+                Ok(None)
+            } else {
+                Err(e)
+            }
+        }
+    }
+}
+
+// The same of a regular file. Fails if it is another one.
+fn regular<R: Files<File = File>>(rt: &R, path: Path<'_>) -> io::Result<Option<Metadata>> {
+    match metadata(rt, path)? {
+        Some(metadata) => {
+            if metadata.is_file() {
+                Ok(Some(metadata))
+            } else {
+                Err(io::Error::from(ErrorKind::InvalidInput))
+            }
+        }
+        None => Ok(None),
+    }
+}
+
+// The permissions of a file, if there is one.
+fn permissions<R: Files<File = File>>(rt: &R, path: Path<'_>) -> io::Result<Option<Permissions>> {
+    match regular(rt, path)? {
+        Some(metadata) => Ok(Some(metadata.permissions())),
+        None => Ok(None),
+    }
+}
+
 impl<R: Files<File = File> + AllocGlobal + Copy> HostFolder<R> {
-    /// Opens the folder of this name, and locks it. No later call allocates anything but the text that it reads.
+    /// Opens the folder of this name. No later call allocates anything but the text that it reads and the path of a name
+    /// of more than 126 bytes.
     ///
     /// # Errors
     ///
-    /// `NoFolder` also if the name is empty; `InUse` if the folder is locked.
-    pub fn open(rt: R, dir: &str) -> Result<Self, OpenFault>
-        ensures lynx { IfOk result (λ f. path_buf_bytes f.paths.lynx ≡ path_join dir.now (codes "lynx.tws")) }
-        ensures ms { IfOk result (λ f. path_buf_bytes f.paths.ms ≡ path_join dir.now (codes "ms.tws")) }
-        ensures lynx_draft { IfOk result (λ f. path_buf_bytes f.paths.lynx_draft ≡ path_join dir.now (codes "lynx.new")) }
-        ensures ms_draft { IfOk result (λ f. path_buf_bytes f.paths.ms_draft ≡ path_join dir.now (codes "ms.new")) }
+    /// What the system reports, also if the name is empty; `NotADirectory` if there is no folder of this name.
+    pub fn open_unlocked(rt: R, dir: &str) -> io::Result<Self>
+        ensures path { IfOk result (λ f. string_bytes f.path.dir ≡ dir.now) }
+        ensures target { IfOk result (λ f. string_bytes f.target.dir ≡ dir.now) }
         ensures faults { IfOk result (λ f. f.faults ≡ 0) }
         ensures error { IfOk result (λ f. f.error ≡ None) }
     {
-        let Ok(paths) = Paths::new(rt.alloc(), dir) else {
-            return Err(OpenFault::Memory);
-        };
-        let folder = match open_folder(&rt, dir) {
+        let path = FolderPath::new(rt.alloc(), dir)?;
+        let target = FolderPath::new(rt.alloc(), dir)?;
+        let folder = open_folder(&rt, dir)?;
+        Ok(HostFolder {
+            rt,
+            path,
+            target,
+            folder,
+            faults: 0,
+            error: None,
+        })
+    }
+
+    /// The same, and locks the folder while it is open.
+    ///
+    /// # Errors
+    ///
+    /// `InUse` if the folder is locked.
+    pub fn open(rt: R, dir: &str) -> Result<Self, OpenFault>
+        ensures path { IfOk result (λ f. string_bytes f.path.dir ≡ dir.now) }
+        ensures target { IfOk result (λ f. string_bytes f.target.dir ≡ dir.now) }
+        ensures faults { IfOk result (λ f. f.faults ≡ 0) }
+        ensures error { IfOk result (λ f. f.error ≡ None) }
+    {
+        let folder = match HostFolder::open_unlocked(rt, dir) {
             Ok(folder) => folder,
-            Err(cause) => return Err(OpenFault::NoFolder(cause)),
+            Err(cause) => {
+                return Err(match fault_of(&cause) {
+                    CallFault::Memory => OpenFault::Memory,
+                    CallFault::Device => OpenFault::NoFolder(cause),
+                });
+            }
         };
-        match folder.try_lock() {
-            Ok(()) => Ok(HostFolder {
-                rt,
-                paths,
-                folder,
-                faults: 0,
-                error: None,
-            }),
+        match folder.folder.try_lock() {
+            Ok(()) => Ok(folder),
             Err(TryLockError::WouldBlock) => Err(OpenFault::InUse),
             Err(TryLockError::Error(cause)) => Err(OpenFault::NoFolder(cause)),
         }
@@ -121,7 +170,7 @@ impl<R: Files<File = File> + AllocGlobal + Copy> HostFolder<R> {
     }
 
     // The result of a call, which is counted if it failed.
-    fn counted<T>(&mut self, outcome: io::Result<T>) -> Result<T, KeepFault>
+    fn counted<T>(&mut self, outcome: io::Result<T>) -> Result<T, CallFault>
         ensures more { self.old.faults ≤ self.new.faults }
         ensures fault { OnErr result (Rises self.old.faults self.new.faults) }
         ensures error { OnErr result (IsSome self.new.error) }
@@ -135,37 +184,18 @@ impl<R: Files<File = File> + AllocGlobal + Copy> HostFolder<R> {
         }
     }
 
-    // What the system knows of a file, if there is one. Fails if it is not a regular file.
-    fn metadata(&self, name: FileName) -> io::Result<Option<Metadata>> {
-        match fs::symlink_metadata(&self.rt, self.paths.of(name)) {
-            Ok(metadata) => {
-                if metadata.is_file() {
-                    Ok(Some(metadata))
-                } else {
-                    Err(io::Error::from(ErrorKind::InvalidInput))
-                }
-            }
-            Err(e) => {
-                if e.kind() == ErrorKind::NotFound {
-                    Ok(None)
-                } else {
-                    Err(e)
-                }
-            }
-        }
-    }
-
-    // The permissions of the file that a new file of this name replaces, if there is one.
-    fn last_permissions(&self, name: FileName) -> io::Result<Option<Permissions>> {
-        match self.metadata(kept(name))? {
-            Some(metadata) => Ok(Some(metadata.permissions())),
-            None => Ok(None),
-        }
+    // `contains` without counting faults.
+    fn has_file(&mut self, name: &str) -> io::Result<bool>
+        ensures faults { self.new.faults ≡ self.old.faults }
+    {
+        Ok(metadata(&self.rt, self.path.of(name)?)?.is_some())
     }
 
     // `remove` without counting faults.
-    fn remove_file(&self, name: FileName) -> io::Result<()> {
-        match fs::remove_file(&self.rt, self.paths.of(name)) {
+    fn remove_file(&mut self, name: &str) -> io::Result<()>
+        ensures faults { self.new.faults ≡ self.old.faults }
+    {
+        match fs::remove_file(&self.rt, self.path.of(name)?) {
             Ok(()) => Ok(()),
             Err(e) => {
                 if e.kind() == ErrorKind::NotFound {
@@ -178,11 +208,13 @@ impl<R: Files<File = File> + AllocGlobal + Copy> HostFolder<R> {
     }
 
     // `create_new` without counting faults.
-    fn create_file(&self, name: FileName) -> io::Result<HostFile> {
-        let permissions = self.last_permissions(name)?;
+    fn create_file(&mut self, name: &str, target: &str) -> io::Result<HostFile>
+        ensures faults { self.new.faults ≡ self.old.faults }
+    {
+        let permissions = permissions(&self.rt, self.target.of(target)?)?;
         let mut options = OpenOptions::new();
         options.write(true).create_new(true);
-        let file = options.open(&self.rt, self.paths.of(name))?;
+        let file = options.open(&self.rt, self.path.of(name)?)?;
         if let Some(permissions) = permissions {
             file.set_permissions(permissions)?;
         }
@@ -190,16 +222,23 @@ impl<R: Files<File = File> + AllocGlobal + Copy> HostFolder<R> {
     }
 
     // `rename` without counting faults.
-    fn rename_file(&self, from: FileName, to: FileName) -> io::Result<()> {
-        fs::rename(&self.rt, self.paths.of(from), self.paths.of(to))
+    fn rename_file(&mut self, from: &str, to: &str) -> io::Result<()>
+        ensures faults { self.new.faults ≡ self.old.faults }
+    {
+        let from = self.path.of(from)?;
+        let to = self.target.of(to)?;
+        fs::rename(&self.rt, from, to)
     }
 
     // `read` without counting faults.
-    fn read_file<A: Allocator>(&self, alloc: A, name: FileName) -> io::Result<Option<Vec<u8, A>>> {
-        if self.metadata(name)?.is_none() {
+    fn read_file<A: Allocator>(&mut self, alloc: A, name: &str) -> io::Result<Option<Vec<u8, A>>>
+        ensures faults { self.new.faults ≡ self.old.faults }
+    {
+        let path = self.path.of(name)?;
+        if regular(&self.rt, path)?.is_none() {
             return Ok(None);
         }
-        let mut file = fs::open(&self.rt, self.paths.of(name))?;
+        let mut file = fs::open(&self.rt, path)?;
         let mut text = Vec::new(alloc);
         file.read_to_end(&mut text)?;
         Ok(Some(text))
@@ -209,31 +248,28 @@ impl<R: Files<File = File> + AllocGlobal + Copy> HostFolder<R> {
 impl<R: Files<File = File> + AllocGlobal + Copy> Folder for HostFolder<R> {
     type File = HostFile;
 
+    ghost use Rattle.folders.specs.Folder.{no_model};
+
     ghost has_model = { false };
 
-    ghost reads = { λ _ _ _. Unit {0} };
+    ghost model = { no_model };
 
-    ghost holds = { λ _ _ _. Unit {0} };
-
-    ghost leaves = { λ _ _ _. Unit {0} };
-
-    ghost moment = { λ _. 0 };
-
-    ghost left_since = { λ _ _ _ _. Unit {0} };
+    ghost undoes_renames = { false };
 
     ghost faults = { λ f. f.faults };
 
-    ghost counts_now = { λ _ _ _ _ _ _ _. tt };
+    fn contains(&mut self, name: &str) -> Result<bool, CallFault> {
+        let result = self.has_file(name);
+        self.counted(result)
+    }
 
-    ghost only_now = { λ _ _ _ _ _. tt };
-
-    fn remove(&mut self, name: FileName) -> Result<(), KeepFault> {
+    fn remove(&mut self, name: &str) -> Result<(), CallFault> {
         let result = self.remove_file(name);
         self.counted(result)
     }
 
-    fn create_new(&mut self, name: FileName) -> Result<HostFile, KeepFault> {
-        let result = self.create_file(name);
+    fn create_new(&mut self, name: &str, target: &str) -> Result<HostFile, CallFault> {
+        let result = self.create_file(name, target);
         self.counted(result)
     }
 
@@ -241,16 +277,16 @@ impl<R: Files<File = File> + AllocGlobal + Copy> Folder for HostFolder<R> {
         self.note(file.fault());
     }
 
-    fn sync(&mut self, _name: FileName, file: HostFile) -> Result<(), KeepFault> {
+    fn sync(&mut self, _name: &str, file: HostFile) -> Result<(), CallFault> {
         self.counted(file.sync_all())
     }
 
-    fn rename(&mut self, from: FileName, to: FileName) -> Result<(), KeepFault> {
+    fn rename(&mut self, from: &str, to: &str) -> Result<(), CallFault> {
         let result = self.rename_file(from, to);
         self.counted(result)
     }
 
-    fn sync_folder(&mut self) -> Result<(), KeepFault> {
+    fn sync_folder(&mut self) -> Result<(), CallFault> {
         let result = self.folder.sync_all();
         self.counted(result)
     }
@@ -258,8 +294,8 @@ impl<R: Files<File = File> + AllocGlobal + Copy> Folder for HostFolder<R> {
     fn read<A: Allocator>(
         &mut self,
         alloc: A,
-        name: FileName,
-    ) -> Result<Option<Vec<u8, A>>, KeepFault> {
+        name: &str,
+    ) -> Result<Option<Vec<u8, A>>, CallFault> {
         let result = self.read_file(alloc, name);
         self.counted(result)
     }

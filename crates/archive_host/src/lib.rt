@@ -8,11 +8,11 @@
 //! called.
 #![tactic(auto)]
 
+mod folder_path;
 mod host_file;
 mod host_folder;
 mod open_port;
 mod open_ports;
-mod paths;
 mod port_deck;
 mod udp_wire;
 mod unread;

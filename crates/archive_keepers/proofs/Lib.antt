@@ -1,4 +1,3 @@
-pub mod Past
-pub mod Steps
+pub mod Apart
 pub mod Logs
 pub mod Lifetimes

@@ -1,11 +1,12 @@
--- A value for each name.
+-- The names of the files in the archive's folder.
+use Rattle.std.specs.Prelude.{ℕ, List, codes}
+use Rattle.tws_file.specs.declared.«ruleset».Ruleset.{Ruleset}
 use Rattle.tws_file.specs.declared.«ruleset».Ruleset.TheVariants.{Lynx, Ms}
-use Rattle.archive_keepers.specs.declared.file_name.FileName.{FileName}
-use Rattle.archive_keepers.specs.declared.file_name.FileName.TheVariants.{Kept, Draft}
-use Rattle.archive_keepers.specs.declared.by_name.ByName.{ByName}
 
-abbrev pub at_name : {T : Type 0} → ByName T → FileName → T
-at_name values (Kept Lynx) = values.lynx
-at_name values (Kept Ms) = values.ms
-at_name values (Draft Lynx) = values.lynx_draft
-at_name values (Draft Ms) = values.ms_draft
+abbrev pub kept_name : Ruleset → List ℕ
+kept_name Lynx = codes "lynx.tws"
+kept_name Ms = codes "ms.tws"
+
+abbrev pub draft_name : Ruleset → List ℕ
+draft_name Lynx = codes "lynx.new"
+draft_name Ms = codes "ms.new"

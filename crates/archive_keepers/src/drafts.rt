@@ -1,41 +1,26 @@
 //! Clears a folder of what a server that was killed may have left in it.
 
-ghost use Rattle.std.specs.Prelude.{◌≡◌, ◌≢◌, ◌≤◌, true, None, OnOk, OnErr};
+ghost use Rattle.std.specs.Prelude.{◌≡◌, ◌≤◌, true, None, OnOk, OnErr};
 ghost use Rattle.tws_file.specs.declared.«ruleset».Ruleset.{Ruleset};
-ghost use Rattle.archive_keepers.specs.declared.file_name.FileName.{FileName};
-ghost use Rattle.archive_keepers.specs.Folder.{Only};
 ghost use Rattle.byte_output.specs.Failures.{Rises};
-ghost use Rattle.archive_keepers.specs.Replacing.{Stays};
+ghost use Rattle.folders.specs.Folder.{Only, Stays};
+ghost use Rattle.archive_keepers.specs.Names.{kept_name, draft_name};
 
-use crate::file_name::FileName;
-use crate::folder::Folder;
-use archive_table::KeepFault;
+use crate::names::{draft_name as draft_of, kept_name as name_of};
+use folders::{CallFault, Folder, clear_draft};
 use tws_file::Ruleset;
-
-// Removes a draft, makes it anew and removes that, so that it fails where no draft can be written.
-fn clear_draft<F: Folder>(folder: &mut F, draft: FileName) -> Result<(), KeepFault>
-    ensures gone { F.has_model ≡ true → OnOk result (Only None (F.reads folder.new draft)) }
-    ensures others { F.has_model ≡ true → (other : FileName) → other ≢ draft → Stays F.reads F.holds F.leaves F.moment F.left_since folder.old folder.new other }
-    ensures more { F.faults folder.old ≤ F.faults folder.new }
-    ensures fault { OnErr result (Rises (F.faults folder.old) (F.faults folder.new)) }
-{
-    folder.remove(draft)?;
-    let file = folder.create_new(draft)?;
-    folder.sync(draft, file)?;
-    folder.remove(draft)
-}
 
 /// Clears the drafts of both rulesets.
 ///
 /// # Errors
 ///
 /// If a call of the folder fails.
-pub(crate) fn clear_drafts<F: Folder>(folder: &mut F) -> Result<(), KeepFault>
-    ensures cleared { F.has_model ≡ true → OnOk result ((rules : Ruleset) → Only None (F.reads folder.new (FileName.Draft rules))) }
-    ensures kept { F.has_model ≡ true → (rules : Ruleset) → Stays F.reads F.holds F.leaves F.moment F.left_since folder.old folder.new (FileName.Kept rules) }
+pub(crate) fn clear_drafts<F: Folder>(folder: &mut F) -> Result<(), CallFault>
+    ensures cleared { F.has_model ≡ true → OnOk result ((rules : Ruleset) → Only None (F.model.reads folder.new (draft_name rules))) }
+    ensures kept { F.has_model ≡ true → (rules : Ruleset) → Stays F.model folder.old folder.new (kept_name rules) }
     ensures more { F.faults folder.old ≤ F.faults folder.new }
     ensures fault { OnErr result (Rises (F.faults folder.old) (F.faults folder.new)) }
 {
-    clear_draft(folder, FileName::Draft(Ruleset::Lynx))?;
-    clear_draft(folder, FileName::Draft(Ruleset::Ms))
+    clear_draft(folder, draft_of(Ruleset::Lynx), name_of(Ruleset::Lynx))?;
+    clear_draft(folder, draft_of(Ruleset::Ms), name_of(Ruleset::Ms))
 }

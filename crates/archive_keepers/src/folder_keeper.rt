@@ -1,20 +1,20 @@
 //! A keeper of the archive over a folder.
 
-ghost use Rattle.std.specs.Prelude.{◌≡◌, ◌≢◌, ◌≤◌, true, false, None, Ok, Err, IfOk, OnOk, OnErr};
+ghost use Rattle.std.specs.Prelude.{◌≡◌, ◌≢◌, ◌≤◌, ℕ, List, true, false, None, Ok, Err, IfOk, OnOk, OnErr};
 ghost use Rattle.tws_file.specs.declared.«ruleset».Ruleset.{Ruleset};
 ghost use Rattle.tws_best.specs.Best.{collection_text};
-ghost use Rattle.archive_table.specs.Keeper.{texts_of};
 ghost use Rattle.byte_output.specs.Failures.{Rises};
-ghost use Rattle.archive_keepers.specs.declared.file_name.FileName.{FileName};
-ghost use Rattle.archive_keepers.specs.Folder.{Only};
-ghost use Rattle.archive_keepers.specs.Replacing.{Stays, Replaces, HasOnly};
+ghost use Rattle.folders.specs.declared.faults.CallFailed.{CallFailed};
+ghost use Rattle.folders.specs.declared.faults.PublishFault.{PublishFault};
+ghost use Rattle.folders.specs.Folder.{Only, Stays, texts_of};
+ghost use Rattle.folders.specs.Publishing.{Replaces, HasOnly};
+ghost use Rattle.archive_keepers.specs.Names.{kept_name, draft_name};
 
+use crate::collection_text::CollectionText;
 use crate::drafts::clear_drafts;
-use crate::file_name::FileName;
-use crate::folder::Folder;
-use crate::folder_fault::FolderFault;
-use crate::replacing::replace;
+use crate::names::{draft_name as draft_of, kept_name as name_of};
 use archive_table::{KeepFault, Keeper};
+use folders::{CallFault, Folder, PublishFault, publish};
 use std::alloc::Allocator;
 use tws_best::Collection;
 use tws_file::Ruleset;
@@ -74,8 +74,8 @@ impl<F: Folder> FolderKeeper<F> {
     ///
     /// Those of the folder: `Device` if it cannot be written to. Then a draft may be left.
     pub fn clear_drafts(&mut self) -> Result<(), KeepFault>
-        ensures cleared { F.has_model ≡ true → OnOk result ((rules : Ruleset) → Only None (F.reads self.new.folder (FileName.Draft rules))) }
-        ensures kept { F.has_model ≡ true → (rules : Ruleset) → Stays F.reads F.holds F.leaves F.moment F.left_since self.old.folder self.new.folder (FileName.Kept rules) }
+        ensures cleared { F.has_model ≡ true → OnOk result ((rules : Ruleset) → Only None (F.model.reads self.new.folder (draft_name rules))) }
+        ensures kept { F.has_model ≡ true → (rules : Ruleset) → Stays F.model self.old.folder self.new.folder (kept_name rules) }
         ensures usable { self.new.is_usable ≡ self.old.is_usable }
         // It fails only if a call of the folder has failed.
         ensures fault { OnErr result (Rises (F.faults self.old.folder) (F.faults self.new.folder)) }
@@ -85,10 +85,7 @@ impl<F: Folder> FolderKeeper<F> {
     {
         match clear_drafts(&mut self.folder) {
             Ok(()) => Ok(()),
-            Err(fault) => {
-                self.count_failure(fault);
-                Err(fault)
-            }
+            Err(fault) => Err(self.note_call(fault)),
         }
     }
 
@@ -105,24 +102,49 @@ impl<F: Folder> FolderKeeper<F> {
         }
     }
 
-    // Notes why the folder did not keep a collection. Returns the fault that the server gets.
-    fn note(&mut self, fault: FolderFault) -> KeepFault
+    // Notes why a call of the folder failed. Returns the fault that the server gets.
+    fn note_call(&mut self, fault: CallFault) -> KeepFault
         ensures folder { self.new.folder ≡ self.old.folder }
-        ensures unknown { fault ≡ FolderFault.Unknown → self.new.is_usable ≡ false }
-        ensures usable { self.new.is_usable ≡ true → self.old.is_usable ≡ true }
+        ensures usable { self.new.is_usable ≡ self.old.is_usable }
         ensures more { self.old.failures ≤ self.new.failures }
         ensures device { result ≡ KeepFault.Device → Rises self.old.failures self.new.failures }
         ensures steady { result ≢ KeepFault.Device → self.new.failures ≡ self.old.failures }
     {
         let fault = match fault {
-            FolderFault::NotKept(fault) => fault,
-            FolderFault::Unknown => {
-                self.is_usable = false;
-                KeepFault::Device
-            }
+            CallFault::Device => KeepFault::Device,
+            CallFault::Memory => KeepFault::Memory,
         };
         self.count_failure(fault);
         fault
+    }
+
+    // The same if a collection was not kept.
+    fn note(&mut self, fault: PublishFault) -> KeepFault
+        ensures folder { self.new.folder ≡ self.old.folder }
+        ensures known { self.new.is_usable ≡ true → (failed : CallFailed) × (fault ≡ PublishFault.NotKept failed) }
+        ensures usable { self.new.is_usable ≡ true → self.old.is_usable ≡ true }
+        ensures more { self.old.failures ≤ self.new.failures }
+        ensures device { result ≡ KeepFault.Device → Rises self.old.failures self.new.failures }
+        ensures steady { result ≢ KeepFault.Device → self.new.failures ≡ self.old.failures }
+    {
+        match fault {
+            PublishFault::NotKept(failed) => self.note_call(failed.fault),
+            PublishFault::Rename => self.give_up(),
+            PublishFault::SyncFolder => self.give_up(),
+        }
+    }
+
+    // From now on it is not known what the folder has.
+    fn give_up(&mut self) -> KeepFault
+        ensures fault { result ≡ KeepFault.Device }
+        ensures folder { self.new.folder ≡ self.old.folder }
+        ensures usable { self.new.is_usable ≡ false }
+        ensures more { self.old.failures ≤ self.new.failures }
+        ensures rises { Rises self.old.failures self.new.failures }
+    {
+        self.is_usable = false;
+        self.count_failure(KeepFault::Device);
+        KeepFault::Device
     }
 }
 
@@ -137,12 +159,12 @@ impl<F: Folder> Keeper for FolderKeeper<F> {
         collection: &Collection<A>,
     ) -> Result<(), KeepFault>
         // From then on a crash leaves the new collection and nothing else.
-        ensures kept { F.has_model ≡ true → OnOk result (HasOnly (F.reads self.new.folder) (F.holds self.new.folder) (F.leaves self.new.folder) (FileName.Kept «ruleset») (collection_text collection.now)) }
+        ensures kept { F.has_model ≡ true → OnOk result (HasOnly F.model self.new.folder (kept_name «ruleset») (collection_text collection.now)) }
         // A crash at any moment of the call leaves what was possible before, or the new collection.
-        ensures any_moment { F.has_model ≡ true → Replaces F.reads F.leaves F.moment F.left_since self.old.folder self.new.folder (FileName.Kept «ruleset») (collection_text collection.now) }
+        ensures any_moment { F.has_model ≡ true → Replaces F.model self.old.folder self.new.folder (kept_name «ruleset») (collection_text collection.now) }
         // If the keeper is still usable, nothing was kept.
-        ensures not_kept { F.has_model ≡ true → OnErr result (self.new.is_usable ≡ true → Stays F.reads F.holds F.leaves F.moment F.left_since self.old.folder self.new.folder (FileName.Kept «ruleset»)) }
-        ensures others { F.has_model ≡ true → (other : FileName) → other ≢ FileName.Kept «ruleset» → other ≢ FileName.Draft «ruleset» → Stays F.reads F.holds F.leaves F.moment F.left_since self.old.folder self.new.folder other }
+        ensures not_kept { F.has_model ≡ true → OnErr result (self.new.is_usable ≡ true → Stays F.model self.old.folder self.new.folder (kept_name «ruleset»)) }
+        ensures others { F.has_model ≡ true → (other : List ℕ) → other ≢ kept_name «ruleset» → other ≢ draft_name «ruleset» → Stays F.model self.old.folder self.new.folder other }
         ensures usable { OnOk result (self.old.is_usable ≡ true) }
         ensures still_usable { OnOk result (self.new.is_usable ≡ true) }
         // Once it is unknown whether a collection was kept, nothing is kept any more.
@@ -159,7 +181,8 @@ impl<F: Folder> Keeper for FolderKeeper<F> {
             self.count_failure(KeepFault::Device);
             return Err(KeepFault::Device);
         }
-        match replace(&mut self.folder, ruleset, collection) {
+        let text = CollectionText { collection };
+        match publish(&mut self.folder, draft_of(ruleset), name_of(ruleset), &text) {
             Ok(()) => Ok(()),
             Err(fault) => Err(self.note(fault)),
         }
@@ -171,8 +194,8 @@ impl<F: Folder> Keeper for FolderKeeper<F> {
         ruleset: Ruleset,
     ) -> Result<Option<Vec<u8, A>>, KeepFault>
         // What a read of the collection's file may give, so `None` only if there may be no file.
-        ensures found { F.has_model ≡ true → IfOk result (λ found. F.reads self.old.folder (FileName.Kept «ruleset») (texts_of found)) }
-        ensures all { F.has_model ≡ true → (other : FileName) → Stays F.reads F.holds F.leaves F.moment F.left_since self.old.folder self.new.folder other }
+        ensures found { F.has_model ≡ true → IfOk result (λ found. F.model.reads self.old.folder (kept_name «ruleset») (texts_of found)) }
+        ensures all { F.has_model ≡ true → (other : List ℕ) → Stays F.model self.old.folder self.new.folder other }
         ensures usable { self.new.is_usable ≡ self.old.is_usable }
         // It fails only if a call of the folder has failed.
         ensures fault { OnErr result (Rises (F.faults self.old.folder) (F.faults self.new.folder)) }
@@ -180,12 +203,9 @@ impl<F: Folder> Keeper for FolderKeeper<F> {
         ensures failed { result ≡ Err KeepFault.Device → Rises self.old.failures self.new.failures }
         ensures steady { result ≢ Err KeepFault.Device → self.new.failures ≡ self.old.failures }
     {
-        match self.folder.read(alloc, FileName::Kept(ruleset)) {
+        match self.folder.read(alloc, name_of(ruleset)) {
             Ok(found) => Ok(found),
-            Err(fault) => {
-                self.count_failure(fault);
-                Err(fault)
-            }
+            Err(fault) => Err(self.note_call(fault)),
         }
     }
 

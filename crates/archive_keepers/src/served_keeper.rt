@@ -2,11 +2,11 @@
 
 ghost use Rattle.std.specs.Prelude.{◌≡◌, Bool, true};
 
-use crate::folder::Folder;
 use crate::folder_keeper::FolderKeeper;
 use crate::limited::Limited;
 use crate::no_keeper::NoKeeper;
 use archive_table::Keeper;
+use folders::Folder;
 use std::io;
 
 /// A keeper that a server can serve with, which reports when that has to end.

@@ -8,6 +8,7 @@ use Rattle.archive_table.specs.declared.step_event.StepEvent.{StepEvent}
 use Rattle.archive_table.specs.declared.step_event.StepEvent.TheVariants as did
 use Rattle.archive_table.specs.Table.{Taken}
 use Rattle.archive_table.specs.Events.{Reported}
+use Rattle.folders.specs.Folder.{FolderModel}
 use Rattle.archive_history.specs.History.{AddsNothing, Records, stem_text}
 use Rattle.archive_history.specs.Times.{ShowsMoment}
 use Rattle.archive_log.specs.declared.logged_transfer.LoggedTransfer.{LoggedTransfer}
@@ -30,38 +31,37 @@ pub record FollowsStep {H : Type 0} (port : ℕ) (from : Option Endpoint) (step 
 
 -- ---- the history
 
--- the files of a folder, none if there is none
-abbrev pub files_of : {H : Type 0} → (file_at : H → List ℕ → Option (List ℕ)) → Option H → List ℕ → Option (List ℕ)
-files_of file_at None name = None
-files_of file_at (Some h) name = file_at h name
-
 -- a file that was taken was added, under a name of some moment, its peer and the ruleset that its fifth byte says
-pub record RecordsTaken (t : Taken) (old new : List ℕ → Option (List ℕ)) : Type 0 where
+pub record RecordsTaken {H : Type 0} (m : FolderModel H) (t : Taken) (old new : H) : Type 0 where
   pub time : List ℕ
   pub moment : ShowsMoment time
   pub rules : Ruleset
   pub rules_is : ruleset_in t.file ≡ Some rules
-  pub records : Records (stem_text time t.peer rules) t.file old new
+  pub records : Records m (stem_text time t.peer rules) t.file old new
 
--- each name has the file that it had
-abbrev pub SameFiles : (old new : List ℕ → Option (List ℕ)) → Type 0
-SameFiles old new = (name : List ℕ) → new name ≡ old name
+-- a history after a file was to be added
+pub record Recorded {H : Type 0} (m : FolderModel H) (t : Taken) (old new : Option H) : Type 0 where
+  pub before : H
+  pub was : old ≡ Some before
+  pub after : H
+  pub is : new ≡ Some after
+  pub adds : AddsNothing m before after ⊎ RecordsTaken m t before after
 
 -- No file of the history is changed or removed, but for drafts: at most the file that was taken is added, and only if it
 -- improved a collection.
-pub record KeepsFile (t : Taken) (merged : Merged) (old new : List ℕ → Option (List ℕ)) : Type 0 where
-  pub adds : AddsNothing old new ⊎ RecordsTaken t old new
-  pub useless : merged.better ≡ 0 → SameFiles old new
+pub record KeepsFile {H : Type 0} (m : FolderModel H) (t : Taken) (merged : Merged) (old new : Option H) : Type 0 where
+  pub adds : (new ≡ old) ⊎ Recorded m t old new
+  pub useless : merged.better ≡ 0 → new ≡ old
 
-abbrev pub KeepsAs : StepEvent → Taken → (old new : List ℕ → Option (List ℕ)) → Type 0
-KeepsAs did.Nothing t old new = SameFiles old new
-KeepsAs did.OpenedPut t old new = SameFiles old new
-KeepsAs (did.OpenedGet rules) t old new = SameFiles old new
-KeepsAs (did.Refused why) t old new = SameFiles old new
-KeepsAs (did.Taken merged) t old new = KeepsFile t merged old new
-KeepsAs (did.Finished bytes) t old new = SameFiles old new
-KeepsAs (did.Failed block why) t old new = SameFiles old new
+abbrev pub KeepsAs : {H : Type 0} (m : FolderModel H) → StepEvent → Taken → (old new : Option H) → Type 0
+KeepsAs m did.Nothing t old new = new ≡ old
+KeepsAs m did.OpenedPut t old new = new ≡ old
+KeepsAs m (did.OpenedGet rules) t old new = new ≡ old
+KeepsAs m (did.Refused why) t old new = new ≡ old
+KeepsAs m (did.Taken merged) t old new = KeepsFile m t merged old new
+KeepsAs m (did.Finished bytes) t old new = new ≡ old
+KeepsAs m (did.Failed block why) t old new = new ≡ old
 
-abbrev pub KeepsTaken : Option Taken → StepEvent → (old new : List ℕ → Option (List ℕ)) → Type 0
-KeepsTaken None event old new = SameFiles old new
-KeepsTaken (Some t) event old new = KeepsAs event t old new
+abbrev pub KeepsTaken : {H : Type 0} (m : FolderModel H) → Option Taken → StepEvent → (old new : Option H) → Type 0
+KeepsTaken m None event old new = new ≡ old
+KeepsTaken m (Some t) event old new = KeepsAs m event t old new

@@ -5,14 +5,15 @@ ghost use Rattle.tws_file.specs.declared.«ruleset».Ruleset.TheVariants.{Lynx, 
 ghost use Rattle.archive_history.specs.Times.{ShowsMoment};
 ghost use Rattle.archive_table.specs.Table.{map_of};
 ghost use Rattle.archive_log.specs.Events.{served_after, taken_after};
-ghost use Rattle.archive_log.specs.ServerLog.{FollowsStep, KeepsFile, KeepsTaken, files_of};
+ghost use Rattle.archive_log.specs.ServerLog.{FollowsStep, KeepsFile, KeepsTaken};
 
 use crate::log_event::LogEvent;
 use crate::log_line::LogLine;
 use crate::logged_transfers::LoggedTransfers;
-use archive_history::{HistoryFault, HistoryFolder, Stamp, record as record_in, stem_of};
+use archive_history::{HistoryFault, Stamp, record as record_in, stem_of};
 use archive_server::ServerObserver;
 use archive_table::{Merged, Observer, Step, StepEvent, Table, Taken};
+use folders::Folder;
 use log::Log;
 use std::alloc::{Allocator, Global};
 use std::marker::Model;
@@ -23,7 +24,7 @@ use tws_file::Ruleset;
 /// Writes a line to a log for each event of a server, and puts each file that changed a collection into a history, if
 /// there is one. Whatever it cannot write or has no memory for changes nothing else.
 #[derive(Drop)]
-pub struct ServerLog<C: Clock, L: Log, H: HistoryFolder, A: Allocator + Copy = Global> {
+pub struct ServerLog<C: Clock, L: Log, H: Folder, A: Allocator + Copy = Global> {
     alloc: A,
     clock: C,
     log: L,
@@ -43,7 +44,7 @@ fn millis_now(clock: &impl Clock) -> u64 {
     }
 }
 
-impl<C: Clock, L: Log, H: HistoryFolder, A: Allocator + Copy> Model for ServerLog<C, L, H, A> {
+impl<C: Clock, L: Log, H: Folder, A: Allocator + Copy> Model for ServerLog<C, L, H, A> {
     ghost use Rattle.archive_log.specs.ServerLog.{Logged};
 
     ghost Value = { Logged H };
@@ -51,7 +52,7 @@ impl<C: Clock, L: Log, H: HistoryFolder, A: Allocator + Copy> Model for ServerLo
     ghost view = { λ log. record { transfers = log.transfers; history = log.history; taken = log.taken; served = log.served } };
 }
 
-impl<C: Clock, L: Log, H: HistoryFolder, A: Allocator + Copy> ServerLog<C, L, H, A> {
+impl<C: Clock, L: Log, H: Folder, A: Allocator + Copy> ServerLog<C, L, H, A> {
     /// A log of a server that has made no step yet.
     pub fn new(alloc: A, clock: C, log: L, history: Option<H>) -> Self
         ensures { result ≡ record { transfers = []; history = history; taken = 0; served = 0 } }
@@ -121,7 +122,7 @@ impl<C: Clock, L: Log, H: HistoryFolder, A: Allocator + Copy> ServerLog<C, L, H,
     fn record<T: Allocator>(&mut self, time: &Stamp, taken: &Taken<T>, merged: Merged)
         requires { ShowsMoment time.now }
         ensures same { self.new ≡ record self.old { history = self.new.history } }
-        ensures history { H.has_model ≡ true → KeepsFile taken.now merged (files_of H.file_at self.old.history) (files_of H.file_at self.new.history) }
+        ensures history { H.has_model ≡ true → H.undoes_renames ≡ true → KeepsFile H.model taken.now merged self.old.history self.new.history }
     {
         if let Err(why) = add_to_history(self.alloc, &mut self.history, time, taken, merged) {
             let peer = taken.peer;
@@ -133,7 +134,7 @@ impl<C: Clock, L: Log, H: HistoryFolder, A: Allocator + Copy> ServerLog<C, L, H,
     fn record_step<T: Allocator>(&mut self, time: &Stamp, step: &Step<T>)
         requires { ShowsMoment time.now }
         ensures same { self.new ≡ record self.old { history = self.new.history } }
-        ensures history { H.has_model ≡ true → KeepsTaken step.now.taken step.now.event (files_of H.file_at self.old.history) (files_of H.file_at self.new.history) }
+        ensures history { H.has_model ≡ true → H.undoes_renames ≡ true → KeepsTaken H.model step.now.taken step.now.event self.old.history self.new.history }
     {
         let Some(taken) = &step.taken else {
             return;
@@ -146,7 +147,7 @@ impl<C: Clock, L: Log, H: HistoryFolder, A: Allocator + Copy> ServerLog<C, L, H,
     // Reports a step, if it is an event, and puts the file that it took into the history.
     fn follow<T: Allocator>(&mut self, port: u16, from: Option<Endpoint>, step: &Step<T>)
         ensures step { FollowsStep port from step.now self.old self.new }
-        ensures history { H.has_model ≡ true → KeepsTaken step.now.taken step.now.event (files_of H.file_at self.old.history) (files_of H.file_at self.new.history) }
+        ensures history { H.has_model ≡ true → H.undoes_renames ≡ true → KeepsTaken H.model step.now.taken step.now.event self.old.history self.new.history }
     {
         let now = millis_now(&self.clock);
         let event = self.transfers.on_step(now, port, from, step);
@@ -179,7 +180,7 @@ fn started_event<'a, T: Allocator + Copy>(
 }
 
 // Puts a file that changed a collection into the history, if there is one.
-fn add_to_history<H: HistoryFolder, A: Allocator + Copy, T: Allocator>(
+fn add_to_history<H: Folder, A: Allocator + Copy, T: Allocator>(
     alloc: A,
     history: &mut Option<H>,
     time: &Stamp,
@@ -187,7 +188,7 @@ fn add_to_history<H: HistoryFolder, A: Allocator + Copy, T: Allocator>(
     merged: Merged,
 ) -> Result<(), HistoryFault>
     requires { ShowsMoment time.now }
-    ensures { H.has_model ≡ true → KeepsFile taken.now merged (files_of H.file_at history.old) (files_of H.file_at history.new) }
+    ensures { H.has_model ≡ true → H.undoes_renames ≡ true → KeepsFile H.model taken.now merged history.old history.new }
 {
     if merged.better == 0 {
         return Ok(());
@@ -203,7 +204,7 @@ fn add_to_history<H: HistoryFolder, A: Allocator + Copy, T: Allocator>(
 }
 
 /// A step is reported if it is an event, and the file that it took goes into the history if it changed a collection.
-impl<C: Clock, L: Log, H: HistoryFolder, A: Allocator + Copy> Observer for ServerLog<C, L, H, A> {
+impl<C: Clock, L: Log, H: Folder, A: Allocator + Copy> Observer for ServerLog<C, L, H, A> {
     fn on_step<T: Allocator + Copy>(
         &mut self,
         port: u16,
@@ -212,15 +213,14 @@ impl<C: Clock, L: Log, H: HistoryFolder, A: Allocator + Copy> Observer for Serve
         _table: &Table<T>,
     )
         ensures step { FollowsStep port from step.now self.old self.new }
-        ensures history { H.has_model ≡ true → KeepsTaken step.now.taken step.now.event (files_of H.file_at self.old.history) (files_of H.file_at self.new.history) }
+        ensures history { H.has_model ≡ true → H.undoes_renames ≡ true → KeepsTaken H.model step.now.taken step.now.event self.old.history self.new.history }
     {
         self.follow(port, from, step);
     }
 }
 
 /// The server's start and stop are reported, and each request that was dropped.
-impl<C: Clock, L: Log, H: HistoryFolder, A: Allocator + Copy> ServerObserver
-    for ServerLog<C, L, H, A> {
+impl<C: Clock, L: Log, H: Folder, A: Allocator + Copy> ServerObserver for ServerLog<C, L, H, A> {
     fn on_started<T: Allocator + Copy>(
         &mut self,
         at: Endpoint,

@@ -5,7 +5,7 @@ use Rattle.std.specs.Prelude.{◌≡◌, ◌≢◌, ℕ, Bool, List, ◌∷◌, 
 use Rattle.std.specs.Map.{lookup}
 use Rattle.tftp_packet.specs.declared.endpoint.Endpoint.{Endpoint}
 use Rattle.tws_file.specs.declared.«ruleset».Ruleset.{Ruleset}
-use Rattle.archive_table.specs.Table.{Table, Maps, empty_maps, is_same}
+use Rattle.archive_table.specs.Table.{Table, is_same}
 use Rattle.archive_table.specs.Keeper.{Keeping}
 use Rattle.archive_client.specs.Client.{Client, Operation, put, get, is_over}
 use Rattle.archive_runs.specs.declared.run_fault.RunFault.{RunFault}
@@ -16,7 +16,7 @@ use Rattle.archive_runs.specs.Run.{Run, RunStep, IsRunTurn, MakesRunTurns, Runs,
 use Rattle.archive_runs.specs.Run as run
 use Rattle.archive_runs.specs.Rounds.{asking, IsRunRound, has_ended, MakesRunRounds, Dallies, GetInRoundsAfter}
 use Rattle.archive_runs.specs.Rounds as round
-use Rattle.archive_model.specs.World.{World, server_endpoint, start_from}
+use Rattle.archive_model.specs.World.{World, Origin, empty_origin, first_world, server_endpoint}
 use Rattle.archive_theorem.specs.Headline.{IsOwn, SentOnce}
 use Rattle.archive_theorem.specs.Traces.{Member, starts, trace_from}
 use Rattle.archive_running.specs.Members.{does, visit_members, late_members, client_members, round_members}
@@ -27,21 +27,21 @@ pub record Moment : Type 0 where
   pub archive : Archive
   pub members : List Member
 
--- the archive has come to this moment, from a server with these collections
-abbrev pub IsReached : (texts : List (List ℕ)) → Maps → Moment → Type 0
-IsReached texts maps m = Reaches texts maps m.archive m.members
+-- the archive has come to this moment, from the server of this origin
+abbrev pub IsReached : Origin → Moment → Type 0
+IsReached o m = Reaches o m.archive m.members
 
 -- the world of the theorem at this moment
-abbrev pub world_at : (texts : List (List ℕ)) → Maps → Moment → World
-world_at texts maps m = trace_from m.members (start_from texts maps)
+abbrev pub world_at : Origin → Moment → World
+world_at o m = trace_from m.members (first_world o)
 
 -- the moment after one move
 abbrev pub then : Archive → (added : List Member) → Moment → Moment
 then a added m = record { archive = a; members = m.members ++ added }
 
 -- There its server has this table, and the keeper this log.
-abbrev pub ServesAt : (texts : List (List ℕ)) → Maps → Table → (kept : Option (List Keeping)) → Moment → Type 0
-ServesAt texts maps table kept m = IsReached texts maps m × (m.archive.server ≡ table) × (m.archive.kept ≡ kept)
+abbrev pub ServesAt : Origin → Table → (kept : Option (List Keeping)) → Moment → Type 0
+ServesAt o table kept m = IsReached o m × (m.archive.server ≡ table) × (m.archive.kept ≡ kept)
 
 -- Others move, and each move leaves what `Leaves` says.
 pub data Meanwhile (Leaves : (old new : Archive) → Type 0) : (first last : Moment) → Type 0 where
@@ -63,22 +63,23 @@ AfterTurnOrRound Is =
 abbrev pub after_turn : AfterTurnOrRound IsTurn
 after_turn old new took calls kept now t m =
     then (after_server new.table (next_visit (turn_next old) t.visits.answers old.table).taken calls now m.archive)
-    (visit_members (turn_next old) t.visits.answers old.table ++ late_members t.visits.late) m
+    (visit_members m.archive.home.host (turn_next old) t.visits.answers old.table ++ late_members t.visits.late) m
 
 abbrev pub after_round : AfterTurnOrRound IsRound
 after_round old new took calls kept now t m =
     then (after_server new.table (next_visit (ready_next t.ready old.table) t.visits.answers old.table).taken calls now m.archive)
-    (visit_members (ready_next t.ready old.table) t.visits.answers old.table ++ late_members t.visits.late) m
+    (visit_members m.archive.home.host (ready_next t.ready old.table) t.visits.answers old.table ++ late_members t.visits.late) m
 
 -- One more turn or round: it receives only what was sent before it or is a stranger's, and then others move.
 pub record PassHappens (Before : Moment → Type 0) (calls : List Entry) (after : Moment → Moment) (last : Moment) : Type 0 where
   pub moment : Moment
   pub before : Before moment
-  pub brings : Brings server_endpoint.host calls moment.archive
+  pub brings : Brings moment.archive.home.host calls moment.archive
   pub others : Meanwhile LeavesServer (after moment) last
 
 -- These turns or rounds happen, one after another, from the first moment to the last.
-abbrev pub ManyHappen : (Is : TurnOrRound) → AfterTurnOrRound Is → {count : ℕ} {old new : Server} {taken : ℕ} {calls : List Entry} {kept now : Option (List Keeping)} →
+abbrev pub ManyHappen : (Is : TurnOrRound) → AfterTurnOrRound Is →
+    {count : ℕ} {old new : Server} {taken : ℕ} {calls : List Entry} {kept now : Option (List Keeping)} →
     ServesTurns Is count old new taken calls kept now → (first last : Moment) → Type 0
 ManyHappen Is after (none s kept) first last = Meanwhile LeavesServer first last
 ManyHappen Is after (more {mid = mid} {new = new} {added = added} {between = between} {now = now} took turns made) first last =
@@ -105,69 +106,75 @@ pub record RunStepHappens (Before : Moment → Type 0) (host : ℕ) (old new : R
   pub moment : Moment
   pub before : Before moment
   pub brings : Brings host calls moment.archive
-  pub others : Meanwhile (LeavesClient (own_endpoint host old)) (then (after_client_turn host old new calls moment.archive) added moment) last
+  pub others : Meanwhile (LeavesClient (own_endpoint host old))
+      (then (after_client_turn host old new calls moment.archive) added moment) last
 
 -- These turns or rounds of the client happen, one after another.
-abbrev pub RunsHappen : (Is : RunStep) → RunMembers Is → {ended : Client → Bool} → (host : ℕ) → {count : ℕ} {old new : Run} {calls : List Entry} → Runs Is ended count old new calls → (first last : Moment) → Type 0
+abbrev pub RunsHappen : (Is : RunStep) → RunMembers Is → {ended : Client → Bool} → (host : ℕ) →
+    {count : ℕ} {old new : Run} {calls : List Entry} → Runs Is ended count old new calls → (first last : Moment) → Type 0
 RunsHappen Is members host (run.none r) first last = Meanwhile (LeavesClient (own_endpoint host r)) first last
 RunsHappen Is members host (run.more {mid = mid} {new = new} {added = added} runs running t) first last =
     RunStepHappens (RunsHappen Is members host runs first) host mid new added (members host mid new added t) last
 
-abbrev pub RunTurnsHappen : (host : ℕ) → {turns : ℕ} {old new : Run} {calls : List Entry} → Runs IsRunTurn is_over turns old new calls → (first last : Moment) → Type 0
+abbrev pub RunTurnsHappen : (host : ℕ) → {turns : ℕ} {old new : Run} {calls : List Entry} →
+    Runs IsRunTurn is_over turns old new calls → (first last : Moment) → Type 0
 RunTurnsHappen host runs first last = RunsHappen IsRunTurn turn_members host runs first last
 
-abbrev pub RunRoundsHappen : (host : ℕ) → {rounds : ℕ} {old new : Run} {calls : List Entry} → Runs (IsRunRound asking) has_ended rounds old new calls → (first last : Moment) → Type 0
+abbrev pub RunRoundsHappen : (host : ℕ) → {rounds : ℕ} {old new : Run} {calls : List Entry} →
+    Runs (IsRunRound asking) has_ended rounds old new calls → (first last : Moment) → Type 0
 RunRoundsHappen host runs first last = RunsHappen (IsRunRound asking) (paced_members asking) host runs first last
 
 -- So do the rounds of a client that dallies.
-abbrev pub DalliesHappen : (pace : Pace) (host : ℕ) → {late : Bool} {count : ℕ} {old new : Run} {calls : List Entry} → Dallies pace late count old new calls → (first last : Moment) → Type 0
+abbrev pub DalliesHappen : (pace : Pace) (host : ℕ) → {late : Bool} {count : ℕ} {old new : Run} {calls : List Entry} →
+    Dallies pace late count old new calls → (first last : Moment) → Type 0
 DalliesHappen pace host (round.none r) first last = Meanwhile (LeavesClient (own_endpoint host r)) first last
 DalliesHappen pace host (round.more {mid = mid} {new = new} {added = added} late dallies t late_is) first last =
     RunStepHappens (DalliesHappen pace host dallies first) host mid new added (paced_members pace host mid new added t) last
 
 -- the archive has come to this moment, and has this client
-abbrev pub ClientAt : (texts : List (List ℕ)) → Maps → (host : ℕ) → Run → Moment → Type 0
-ClientAt texts maps host r m = IsReached texts maps m × (lookup (is_same (own_endpoint host r)) m.archive.clients ≡ Some r.client)
+abbrev pub ClientAt : Origin → (host : ℕ) → Run → Moment → Type 0
+ClientAt o host r m = IsReached o m × (lookup (is_same (own_endpoint host r)) m.archive.clients ≡ Some r.client)
 
 -- the moment after the start of a client
 abbrev pub after_begun : (host : ℕ) → Operation → Run → (calls : List Entry) → Moment → Moment
 after_begun host operation r calls m =
     then (after_begin host operation r calls m.archive) (does (starts (own_endpoint host r) operation) ∷ []) m
 
+-- the same for an operation at the server there
+abbrev pub begun_at : (home : Endpoint) (host : ℕ) (operation : Operation) (r : Run) {before mid : Option (List Entry)} →
+    Begins home operation (Ok r) before mid → Moment → Moment
+begun_at home host operation r begins m = after_begun host operation r (begin_opened begins.port home operation begins.replies).calls m
+
 -- A call that has begun makes its turns; one that has not makes none.
-abbrev pub PutHappens : (host : ℕ) (file : List ℕ) (turns : ℕ) (result : Result ℕ RunFault) (before mid after : Option (List Entry))
-    (begun : Result Run RunFault) →
-    Begins server_endpoint (put file) begun before mid → PutAfter (MakesRunTurns turns) begun (length file) result mid after → (first last : Moment) → Type 0
-PutHappens host file turns result before mid after (Ok r) begins ends first last =
-    RunTurnsHappen host ends.made.runs.runs
-    (after_begun host (put file) r (begin_opened begins.port server_endpoint (put file) begins.replies).calls first) last
-PutHappens host file turns result before mid after (Err e) begins ends first last = last ≡ first
+abbrev pub PutHappens : (home : Endpoint) (host : ℕ) (file : List ℕ) (turns : ℕ) (result : Result ℕ RunFault)
+    (before mid after : Option (List Entry)) (begun : Result Run RunFault) →
+    Begins home (put file) begun before mid → PutAfter (MakesRunTurns turns) begun (length file) result mid after → (first last : Moment) → Type 0
+PutHappens home host file turns result before mid after (Ok r) begins ends first last =
+    RunTurnsHappen host ends.made.runs.runs (begun_at home host (put file) r begins first) last
+PutHappens home host file turns result before mid after (Err e) begins ends first last = last ≡ first
 
 -- the same for a get
-abbrev pub GetHappens : (host : ℕ) (rules : Ruleset) (turns : ℕ) (result : Result ℕ RunFault) (before mid after : Option (List Entry))
-    (written now : Option (List ℕ)) (begun : Result Run RunFault) →
-    Begins server_endpoint (get rules) begun before mid → GetAfter begun turns result mid after written now → (first last : Moment) → Type 0
-GetHappens host rules turns result before mid after written now (Ok r) begins ends first last =
-    RunTurnsHappen host ends.made.runs.runs
-    (after_begun host (get rules) r (begin_opened begins.port server_endpoint (get rules) begins.replies).calls first) last
-GetHappens host rules turns result before mid after written now (Err e) begins ends first last = last ≡ first
+abbrev pub GetHappens : (home : Endpoint) (host : ℕ) (rules : Ruleset) (turns : ℕ) (result : Result ℕ RunFault)
+    (before mid after : Option (List Entry)) (written now : Option (List ℕ)) (begun : Result Run RunFault) →
+    Begins home (get rules) begun before mid → GetAfter begun turns result mid after written now → (first last : Moment) → Type 0
+GetHappens home host rules turns result before mid after written now (Ok r) begins ends first last =
+    RunTurnsHappen host ends.made.runs.runs (begun_at home host (get rules) r begins first) last
+GetHappens home host rules turns result before mid after written now (Err e) begins ends first last = last ≡ first
 
 -- The same for a put and a get by rounds. A look at the clock before the first round is no move.
-abbrev pub PutInRoundsHappens : (host : ℕ) (file : List ℕ) (rounds : ℕ) (result : Result ℕ RunFault) (before mid after : Option (List Entry))
-    (begun : Result Run RunFault) →
-    Begins server_endpoint (put file) begun before mid → PutAfter (MakesRunRounds rounds) begun (length file) result mid after → (first last : Moment) → Type 0
-PutInRoundsHappens host file rounds result before mid after (Ok r) begins ends first last =
-    RunRoundsHappen host ends.made.made.runs.runs
-    (after_begun host (put file) r (begin_opened begins.port server_endpoint (put file) begins.replies).calls first) last
-PutInRoundsHappens host file rounds result before mid after (Err e) begins ends first last = last ≡ first
+abbrev pub PutInRoundsHappens : (home : Endpoint) (host : ℕ) (file : List ℕ) (rounds : ℕ) (result : Result ℕ RunFault)
+    (before mid after : Option (List Entry)) (begun : Result Run RunFault) →
+    Begins home (put file) begun before mid → PutAfter (MakesRunRounds rounds) begun (length file) result mid after → (first last : Moment) → Type 0
+PutInRoundsHappens home host file rounds result before mid after (Ok r) begins ends first last =
+    RunRoundsHappen host ends.made.made.runs.runs (begun_at home host (put file) r begins first) last
+PutInRoundsHappens home host file rounds result before mid after (Err e) begins ends first last = last ≡ first
 
-abbrev pub GetInRoundsHappens : (host : ℕ) (rules : Ruleset) (rounds : ℕ) (result : Result (ℕ × Run) RunFault) (before mid after : Option (List Entry))
-    (written now : Option (List ℕ)) (begun : Result Run RunFault) →
-    Begins server_endpoint (get rules) begun before mid → GetInRoundsAfter rounds begun result mid after written now → (first last : Moment) → Type 0
-GetInRoundsHappens host rules rounds result before mid after written now (Ok r) begins ends first last =
-    RunRoundsHappen host ends.made.made.runs.runs
-    (after_begun host (get rules) r (begin_opened begins.port server_endpoint (get rules) begins.replies).calls first) last
-GetInRoundsHappens host rules rounds result before mid after written now (Err e) begins ends first last = last ≡ first
+abbrev pub GetInRoundsHappens : (home : Endpoint) (host : ℕ) (rules : Ruleset) (rounds : ℕ) (result : Result (ℕ × Run) RunFault)
+    (before mid after : Option (List Entry)) (written now : Option (List ℕ)) (begun : Result Run RunFault) →
+    Begins home (get rules) begun before mid → GetInRoundsAfter rounds begun result mid after written now → (first last : Moment) → Type 0
+GetInRoundsHappens home host rules rounds result before mid after written now (Ok r) begins ends first last =
+    RunRoundsHappen host ends.made.made.runs.runs (begun_at home host (get rules) r begins first) last
+GetInRoundsHappens home host rules rounds result before mid after written now (Err e) begins ends first last = last ≡ first
 
 -- ---- what is promised of a call that returned Ok
 
@@ -182,7 +189,8 @@ pub record GetWasWritten (host : ℕ) (rules : Ruleset) (begun : Result Run RunF
   pub run : Run
   pub has_begun : begun ≡ Ok run
   pub client : Client
-  pub finished : IsOwn w (own_endpoint host run) → (f : WritesFinished (own_endpoint host run) client len w written now) × (f.finished.rules ≡ rules)
+  pub finished : IsOwn w (own_endpoint host run) →
+      (f : WritesFinished (own_endpoint host run) client len w written now) × (f.finished.rules ≡ rules)
 
 -- ---- a sample
 
@@ -198,8 +206,8 @@ pub record PutCanHappen (file : List ℕ) : Type 0 where
   pub call : RunsPut server_endpoint file turns (Ok len) (Some before) (Some after)
   pub first : Moment
   pub last : Moment
-  pub reached : IsReached [] empty_maps first
-  pub happens : PutHappens host file turns (Ok len) (Some before) call.mid (Some after) call.begun call.begins call.ends first last
+  pub reached : IsReached (empty_origin server_endpoint) first
+  pub happens : PutHappens server_endpoint host file turns (Ok len) (Some before) call.mid (Some after) call.begun call.begins call.ends first last
   pub run : Run
   pub has_begun : call.begun ≡ Ok run
-  pub own : IsOwn (world_at [] empty_maps last) (own_endpoint host run)
+  pub own : IsOwn (world_at (empty_origin server_endpoint) last) (own_endpoint host run)

@@ -1,3 +1,4 @@
 pub mod Members
 pub mod Archive
 pub mod Calls
+pub mod Starts

@@ -1,6 +1,6 @@
--- What the turns of archive_server and archive_runs are in the world of archive_model: a datagram that is received and not dropped is a
--- `receives`, and a time-out is a `client_waits_long` or a `server_waits_long`.
-use Rattle.std.specs.Prelude.{ℕ, Bool, true, false, nat_le, List, [], ◌∷◌, map, flat_map, Option, None, Some}
+-- What the turns of archive_server and archive_runs are in the world of archive_model: a datagram that is received and not
+-- dropped is a `receives`, and a time-out is a `client_waits_long` or a `server_waits_long`.
+use Rattle.std.specs.Prelude.{ℕ, Bool, true, false, ◌==◌, not, nat_le, List, [], ◌∷◌, map, filter, flat_map, Option, None, Some}
 use Rattle.tftp_packet.specs.declared.endpoint.Endpoint.{Endpoint}
 use Rattle.tftp_ends.specs.Ends.{Verdict, granted, refused}
 use Rattle.archive_table.specs.Table.{Table, Maps, Grant, all, no_memory, empty_maps}
@@ -11,8 +11,8 @@ use Rattle.archive_server.specs.Turn.{Answers, is_usable}
 use Rattle.archive_runs.specs.Run.{Run, RunAnswers}
 use Rattle.archive_runs.specs.declared.pace.Pace.{Pace}
 use Rattle.archive_runs.specs.Rounds.{RoundAnswers, is_late, is_ready}
-use Rattle.archive_model.specs.World.{Datagram, server_endpoint, datagram_of}
-use Rattle.archive_theorem.specs.Traces.{Deed, receives, client_waits_long, server_waits_long, Member}
+use Rattle.archive_model.specs.World.{Datagram, datagram_of}
+use Rattle.archive_theorem.specs.Traces.{Deed, receives, client_waits_long, server_waits_long, ends_in_keep, Member}
 
 -- ---- what calls of a wire on this host send and receive
 
@@ -58,42 +58,50 @@ abbrev pub grant_for : Verdict → Grant
 grant_for granted = all
 grant_for refused = no_memory
 
--- ---- a visit of the server
+-- ---- a visit of the server on this host
 
-abbrev pub transfer_members : Receipt → Answers → (port : ℕ) → List Member
-transfer_members (datagram from bytes) a port =
-    reception (arrival server_endpoint.host port from bytes) 0 a.grant a.maps ∷ []
-transfer_members nothing a port = []
-transfer_members fault a port = []
+abbrev pub transfer_members : (host : ℕ) → Receipt → Answers → (port : ℕ) → List Member
+transfer_members host (datagram from bytes) a port = reception (arrival host port from bytes) 0 a.grant a.maps ∷ []
+transfer_members host nothing a port = []
+transfer_members host fault a port = []
 
 -- A request is dropped if no port could be opened for it, or if the port cannot be used.
-abbrev pub used_members : (usable : Bool) → (spare : ℕ) → Verdict → (from : Endpoint) (bytes : List ℕ) → Table → List Member
-used_members true spare verdict from bytes s =
-    reception (arrival server_endpoint.host s.request from bytes) spare (grant_for verdict) empty_maps ∷ []
-used_members false spare verdict from bytes s = []
+abbrev pub used_members : (host : ℕ) → (usable : Bool) → (spare : ℕ) → Verdict → (from : Endpoint) (bytes : List ℕ) → Table → List Member
+used_members host true spare verdict from bytes s = reception (arrival host s.request from bytes) spare (grant_for verdict) empty_maps ∷ []
+used_members host false spare verdict from bytes s = []
 
-abbrev pub spared_members : Option ℕ → Verdict → (from : Endpoint) (bytes : List ℕ) → Table → List Member
-spared_members (Some spare) verdict from bytes s = used_members (is_usable spare s) spare verdict from bytes s
-spared_members None verdict from bytes s = []
+abbrev pub spared_members : (host : ℕ) → Option ℕ → Verdict → (from : Endpoint) (bytes : List ℕ) → Table → List Member
+spared_members host (Some spare) verdict from bytes s = used_members host (is_usable spare s) spare verdict from bytes s
+spared_members host None verdict from bytes s = []
 
 -- A datagram that is not let in is dropped too.
-abbrev pub admitted_members : (admitted : Bool) → Answers → (from : Endpoint) (bytes : List ℕ) → Table → List Member
-admitted_members true a from bytes s = spared_members a.spare a.verdict from bytes s
-admitted_members false a from bytes s = []
+abbrev pub admitted_members : (host : ℕ) → (admitted : Bool) → Answers → (from : Endpoint) (bytes : List ℕ) → Table → List Member
+admitted_members host true a from bytes s = spared_members host a.spare a.verdict from bytes s
+admitted_members host false a from bytes s = []
 
-abbrev pub request_members : Receipt → Answers → Table → List Member
-request_members (datagram from bytes) a s = admitted_members a.admitted a from bytes s
-request_members nothing a s = []
-request_members fault a s = []
+abbrev pub request_members : (host : ℕ) → Receipt → Answers → Table → List Member
+request_members host (datagram from bytes) a s = admitted_members host a.admitted a from bytes s
+request_members host nothing a s = []
+request_members host fault a s = []
 
-abbrev pub visit_members : Next → Answers → Table → List Member
-visit_members next.Request a s = request_members a.receipt a s
-visit_members (next.Transfer port) a s = transfer_members a.receipt a port
-visit_members next.Nowhere a s = []
+abbrev pub visit_members : (host : ℕ) → Next → Answers → Table → List Member
+visit_members host next.Request a s = request_members host a.receipt a s
+visit_members host (next.Transfer port) a s = transfer_members host a.receipt a port
+visit_members host next.Nowhere a s = []
 
 -- the time-outs after a visit
 abbrev pub late_members : List (ℕ × Replies) → List Member
 late_members late = map (λ e. does (server_waits_long e.0)) late
+
+-- ---- a keep whose outcome is unknown
+
+-- the time-outs of other ports than this one
+abbrev pub others_of : (port : ℕ) → List (ℕ × Replies) → List (ℕ × Replies)
+others_of port late = filter (λ e. not (e.0 == port)) late
+
+-- With this datagram the server ends, and the next start finds these collections.
+abbrev pub end_member : Datagram → Maps → Member
+end_member d maps = record { deed = ends_in_keep d true; grant = all; maps = maps }
 
 -- ---- a turn of a client
 

@@ -7,4 +7,4 @@
 
 mod laws;
 
-pub use laws::{calls_law, running_law};
+pub use laws::{calls_law, running_law, starts_law};

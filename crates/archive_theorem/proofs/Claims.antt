@@ -11,13 +11,14 @@ use Rattle.tftp_ends.specs.declared.recv_state.RecvState.{RecvState}
 use Rattle.tftp_ends.specs.declared.recv_state.RecvState.TheVariants as recv
 use Rattle.tftp_ends.specs.Ends.{Sender, IsSender, Receiver, IsReceiver, HoldsFirst}
 use Rattle.tws_file.specs.declared.«ruleset».Ruleset.{Ruleset}
+use Rattle.tws_best.specs.Best.{IsBestOver}
 use Rattle.archive_table.specs.Table.{Taken, End, Transfer}
 use Rattle.tws_file.specs.Names.{ruleset_named}
 use Rattle.archive_table.specs.Table as table
 use Rattle.archive_client.specs.Client.{Operation, put, get, Phase, Client, IsOperation}
 use Rattle.archive_client.specs.Client as client
 use Rattle.archive_model.specs.World.{Datagram, Begun, Asked, to_write, to_read, Opening, Got, Past}
-use Rattle.archive_theorem.specs.Headline.{IsBestOver, files_of, Owns}
+use Rattle.archive_theorem.specs.Headline.{files_of, Owns}
 use Rattle.archive_model.proofs.Places.{Has}
 
 -- ---- what has happened

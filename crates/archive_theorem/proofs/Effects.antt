@@ -2,11 +2,11 @@
 use Rattle.std.proofs.Common.{◌≡◌, ◌≢◌, ◌⊎◌, ℕ, ◌<◌, List, [], ◌∷◌, ◌++◌, length, take, slice_get, Contains, Some, refl, ap, sym, ◌∙◌, subst, inl, inr, ⊎_elim, arith, length-append, le_refl, take_all}
 use Rattle.tftp_packet.specs.declared.endpoint.Endpoint.{Endpoint}
 use Rattle.tws_file.specs.declared.«ruleset».Ruleset.{Ruleset}
-use Rattle.tws_best.specs.Best.{collection_text}
+use Rattle.tws_best.specs.Best.{collection_text, IsBestOver}
 use Rattle.archive_table.specs.Table.{Maps, Taken, map_of}
 use Rattle.archive_client.specs.Client.{put, get}
 use Rattle.archive_model.specs.World.{Begun, Opening, to_read, Got, World, WorldStep, Origin, RunFrom, first_world, last_world, happens, run_from, HasMerged, AllMerged, Extends}
-use Rattle.archive_theorem.specs.Headline.{IsOwn, IsBestOver, files_of}
+use Rattle.archive_theorem.specs.Headline.{IsOwn, files_of}
 use Rattle.archive_theorem.specs.Effects.{HasBegunWith, PutsAt, GetsAt, TakesEffect, ReadsAtOnce}
 use Rattle.archive_model.proofs.Places.{Has, Has-last, Has-contains, Has-from_contains, at-last, at-prefix, before_last, take-prefix}
 use Rattle.archive_theorem.proofs.Claims.{IsStranger, IsAskedBy, IsBound, HasBegun}

@@ -8,7 +8,7 @@ use Rattle.tws_file.specs.declared.«ruleset».Ruleset.{Ruleset}
 use Rattle.tws_file.specs.declared.«ruleset».Ruleset.TheVariants.{Lynx, Ms}
 use Rattle.tws_file.specs.Text.{File, IsText}
 use Rattle.tws_file.proofs.FileText.{one_file}
-use Rattle.tws_best.specs.Best.{KeyedBody, Collected, IsCollected, HasBody, IsCollectionOf, IsSolutionIn, collection_text, solved_by, solutions_of}
+use Rattle.tws_best.specs.Best.{KeyedBody, Collected, IsCollected, HasBody, IsCollectionOf, IsSolutionIn, collection_text, solved_by, solutions_of, IsBestOver}
 use Rattle.tws_best.specs.Steps.{IsHeld}
 use Rattle.tws_best.proofs.Bests.{held_by_best}
 use Rattle.tws_best.proofs.Members.{Contains-none}
@@ -17,13 +17,13 @@ use Rattle.archive_table.specs.Table.{Maps, Taken, map_of}
 use Rattle.archive_table.specs.Keeper.{Keeping}
 use Rattle.archive_client.specs.Client.{put}
 use Rattle.archive_model.specs.World.{Begun, Got, WorldStep, World, Origin, RunFrom, first_world, last_world, run_from, happens, HasMerged, AllMerged, IsPrefix}
-use Rattle.archive_theorem.specs.Headline.{IsOwn, IsBestOver, files_of}
+use Rattle.archive_theorem.specs.Headline.{IsOwn, files_of}
 use Rattle.archive_model.specs.Restarts.{HasKept, RunKeeps, LoadsAs}
 use Rattle.archive_theorem.specs.Durable.{HasNoWorse, AreNoWorse, HoldsFile, HoldsPromised, LoadsPromised, CutsShort}
 use Rattle.archive_model.proofs.Places.{Has, IsPrefix-same, IsPrefix-on, Has-contains, Has-from_contains, Has-prefix}
 use Rattle.archive_theorem.proofs.Owning.{one_operation}
 use Rattle.archive_theorem.proofs.Invariant.{AreBest, Holds, first-holds}
-use Rattle.archive_theorem.proofs.Collecting.{best-collected}
+use Rattle.tws_best.proofs.Collections.{best-collected}
 use Rattle.archive_theorem.proofs.Remaining.{step-takes}
 use Rattle.archive_theorem.proofs.Happening.{merged-first, step-holds, run_from-holds, last-holds}
 use Rattle.archive_theorem.proofs.Loading.{loads-the_same, loads-as}

@@ -1,8 +1,6 @@
 -- What an answer of the server does to its transfers, and which ERRORs it sends: for requests, for datagrams at a port and for
 -- time-outs.
-use Rattle.std.proofs.Common.{◌≡◌, ◌≢◌, ◌⊎◌, ℕ, ◌+◌, ◌≤◌, Bool, true, false, ◌==◌, cond, nat_cmp, nat_lt, List, [], ◌∷◌, length, drop, Option, None, Some, IfSome, Result, Ok, Err, refl, ap, sym, ◌∙◌, subst, inl, inr}
-use Rattle.std.specs.Map.{lookup, set_value, remove_entry}
-use Rattle.std.specs.BTreeMap.{insert_entry}
+use Rattle.std.proofs.Common.{◌≡◌, ◌⊎◌, ℕ, ◌≤◌, Bool, true, false, ◌==◌, cond, nat_cmp, nat_lt, List, length, drop, Option, None, Some, IfSome, Result, Ok, Err, refl, ap, sym, ◌∙◌, subst, inl, inr}
 use Rattle.tftp_packet.specs.declared.endpoint.Endpoint.{Endpoint}
 use Rattle.tftp_packet.specs.declared.out.Out.{Out}
 use Rattle.tftp_packet.specs.declared.packet_fault.PacketFault.{PacketFault}
@@ -13,25 +11,22 @@ use Rattle.tftp_packet.specs.Packet.{Packet, read, write, data_block, ack, error
 use Rattle.tftp_packet.specs.declared.packet_fault.PacketFault.TheVariants.{Short, TooLong, BadBlock}
 use Rattle.byteorder.specs.Endian.{big_number}
 use Rattle.tftp_packet.specs.Refusal.{refusal_packet}
-use Rattle.tftp_packet.specs.Decode.{decode_bytes, data_of, ack_of}
+use Rattle.tftp_packet.specs.Decode.{decode_bytes}
 use Rattle.tftp_packet.proofs.Sent.{data_size, sent_refusal}
-use Rattle.tftp_ends.specs.declared.limits.TheConstants.{MISSES, DALLY}
 use Rattle.tftp_ends.specs.declared.send_state.SendState.{SendState}
 use Rattle.tftp_ends.specs.declared.send_state.SendState.TheVariants as send
 use Rattle.tftp_ends.specs.declared.recv_state.RecvState.{RecvState}
 use Rattle.tftp_ends.specs.declared.recv_state.RecvState.TheVariants as recv
 use Rattle.tftp_ends.specs.declared.recv_fault.RecvFault.{RecvFault}
-use Rattle.tftp_ends.specs.Input.{Input, nothing, stray, refusal, acked, block, input_from_peer, input_from_other, input_of_packet}
-use Rattle.tftp_ends.specs.Ends.{Verdict, granted, refused, dgram_of, answer_of, sent_of, Sender, SendAnswer, sender_ack, sender_timeout, sender_start, data_packet, Receiver, RecvAnswer, DataAnswer, receiver_start, receiver_data, receiver_data_in, receiver_running, receiver_next, receiver_takes, receiver_again, is_last_come, is_past, receiver_take, receiver_take_in, receiver_timeout, refusal_of, IsEnded}
+use Rattle.tftp_ends.specs.Input.{input_from_peer, input_from_other, input_of_packet}
+use Rattle.tftp_ends.specs.Ends.{Verdict, granted, refused, dgram_of, answer_of, sent_of, Sender, SendAnswer, sender_ack, sender_timeout, sender_start, data_packet, Receiver, RecvAnswer, DataAnswer, receiver_start, receiver_data, receiver_data_in, receiver_again, is_last_come, receiver_take, receiver_take_in, receiver_timeout, refusal_of, IsEnded}
 use Rattle.tftp_ends.proofs.Steps.{sender_ack-keeps, sender_timeout-keeps, receiver_data-keeps, receiver_timeout-keeps}
 use Rattle.tws_file.specs.declared.«ruleset».Ruleset.{Ruleset}
 use Rattle.tws_file.specs.Names.{ruleset_named}
 use Rattle.tws_best.specs.Best.{Collected, collection_text}
-use Rattle.archive_table.specs.Table.{Table, Maps, Taken, Grant, all, no_memory, unkept, memory_verdict, End, Transfer, sending, receiving, TableAnswer, at_port, transfer_at, table_stays, replies, out_from, refusal_dgram, sends_from, opens, opens_if, refuses, goes_on, closes, takes, map_of, has_slot, has_long_text, read_opens, read_fits, read_with_slot, read_named, read_asked, write_opens, write_with_slot, write_asked, request_by_packet, request_decoded, table_request, is_same, transfer_input_decoded, transfer_input, file_come, file_asked, block_answered, data_at, ack_at, sending_goes_on, sender_answered, receiving_goes_on, receiver_answered, transfer_by_input, datagram_at, table_datagram, waits_at, timeout_at, table_timeout}
-use Rattle.archive_model.proofs.Endpoints.{exact_endpoint}
+use Rattle.archive_table.specs.Table.{Table, Maps, Grant, all, no_memory, unkept, memory_verdict, End, Transfer, sending, receiving, TableAnswer, at_port, transfer_at, table_stays, replies, out_from, refusal_dgram, sends_from, opens_if, refuses, goes_on, closes, takes, map_of, has_slot, has_long_text, read_fits, read_with_slot, read_named, read_asked, write_with_slot, write_asked, request_by_packet, request_decoded, table_request, is_same, transfer_input_decoded, file_come, file_asked, block_answered, data_at, ack_at, sending_goes_on, receiving_goes_on, transfer_by_input, datagram_at, table_datagram, waits_at, timeout_at, table_timeout}
 use Rattle.archive_theorem.proofs.Keyed.{NewOrOld, IsApart, lookup-set, lookup-remove, lookup-removed, lookup-insert_entry}
-use Rattle.archive_theorem.proofs.Claims.{Binds}
-use Rattle.archive_theorem.proofs.Invariant.{exact_port, same_port}
+use Rattle.archive_theorem.proofs.Invariant.{exact_port}
 
 -- ---- what is no ERROR that ends a transfer
 
@@ -123,6 +118,7 @@ pub record Closes (port : ℕ) (s : Table) (a : TableAnswer) (o : Out) : Type 0 
   pub from : o.from_port ≡ port
   pub untaken : HasUntaken transfer.end
   pub gone : transfer_at port a.server ≡ None
+  pub none : a.step.taken ≡ None
 
 -- what an answer at a port does: no transfer is new, and what is sent is no such ERROR, or says that this transfer ends;
 -- a file that is taken is from its peer
@@ -184,6 +180,7 @@ module _ (s : Table) (apart : IsApart at_port exact_port s.live) where
                 from = refl;
                 untaken = untaken;
                 gone = lookup-removed at_port exact_port s.live port apart;
+                none = refl;
               });
           takes = tt;
         }

@@ -4,10 +4,11 @@ use Rattle.std.proofs.lemmas.Bool.{eqb-true}
 use Rattle.tftp_packet.specs.declared.endpoint.Endpoint.{Endpoint}
 use Rattle.tws_file.specs.declared.«ruleset».Ruleset.{Ruleset}
 use Rattle.tws_file.specs.declared.«ruleset».Ruleset.TheVariants.{Lynx}
+use Rattle.tws_best.specs.Best.{IsBestOver}
 use Rattle.archive_table.specs.Table.{Maps, empty_maps}
 use Rattle.archive_client.specs.Client.{Operation, put, get}
 use Rattle.archive_model.specs.World.{Begun, Event, begin, Got, World, WorldStep, begins_unless, event_happens, happens, run_from, run, start, AllMerged, Extends, Origin, first_world, empty_origin}
-use Rattle.archive_theorem.specs.Headline.{IsOwn, HasOwnPorts, IsBestOver, files_of, IsFetchedWith, FetchesOwnSent, FetchesSent}
+use Rattle.archive_theorem.specs.Headline.{IsOwn, HasOwnPorts, files_of, IsFetchedWith, FetchesOwnSent, FetchesSent}
 use Rattle.archive_model.proofs.Places.{Has, Has-last, Has-prefix, Has-contains, Has-from_contains, at-prefix, at-take, before_last, either}
 use Rattle.archive_theorem.proofs.Claims.{HasGet, HasBegun}
 use Rattle.archive_theorem.proofs.Owning.{get_begun, one_operation, own-each, none_reused-before}

@@ -73,7 +73,7 @@ given-at home (x ∷ texts) zero t is = let same : given home x ≡ t = cc in ap
 given-at home (x ∷ texts) (suc i) t is = given-at home texts i t is
 
 -- the files of these are the texts
-given_files : (home : Endpoint) (texts : List (List ℕ)) → files_of (map (given home) texts) ≡ texts
+pub given_files : (home : Endpoint) (texts : List (List ℕ)) → files_of (map (given home) texts) ≡ texts
 given_files home [] = refl
 given_files home (x ∷ texts) = ap (λ (l : List (List ℕ)). x ∷ l) (given_files home texts)
 

@@ -6,12 +6,13 @@ use Rattle.tftp_ends.specs.declared.recv_state.RecvState.{RecvState}
 use Rattle.tftp_ends.specs.declared.recv_state.RecvState.TheVariants as recv
 use Rattle.tftp_ends.specs.Ends.{Receiver}
 use Rattle.tws_file.specs.declared.«ruleset».Ruleset.{Ruleset}
+use Rattle.tws_best.specs.Best.{IsBestOver}
 use Rattle.archive_table.specs.Table.{Taken, End, Transfer}
 use Rattle.archive_table.specs.Table as table
 use Rattle.archive_client.specs.Client.{Phase, Client}
 use Rattle.archive_client.specs.Client as client
 use Rattle.archive_model.specs.World.{Datagram, Asked, to_write, to_read, Opening, Got, Past, IsPrefix, Extends}
-use Rattle.archive_theorem.specs.Headline.{Owns, IsBestOver, files_of}
+use Rattle.archive_theorem.specs.Headline.{Owns, files_of}
 use Rattle.archive_model.proofs.Places.{either, Has-prefix, length-prefix, take-prefix}
 use Rattle.archive_theorem.proofs.Claims.{HasBegun, HasPut, HasGet, IsStranger, HasOpened, HasTaken, IsTextOf, Serves, PutsBlock, ServesBlock, Fetches, AcksPut, ServerAcks, Says, IsHonest, IsBound, HasCome, ReceivesPut, IsLiveEnd, IsLive, IsServed, IsPursuing, IsFaithful, IsAskedBy, IsOpening, IsTakenFrom, IsTaken, IsSent, IsFetched, IsGot}
 use Rattle.archive_theorem.proofs.Owning.{own-before}

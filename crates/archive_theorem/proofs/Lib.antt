@@ -6,7 +6,6 @@ pub mod Invariant
 pub mod ServerMoves
 pub mod Sending
 pub mod Acking
-pub mod Readability
 pub mod Merging
 pub mod Taking
 pub mod Coming
@@ -58,3 +57,10 @@ pub mod Effects
 pub mod RealTime
 pub mod Entering
 pub mod Error_Table
+pub mod Event_Cases
+pub mod Patience_Table
+pub mod Patience
+pub mod Error_Client
+pub mod Error_Claims
+pub mod Error_Steps
+pub mod Error_Runs

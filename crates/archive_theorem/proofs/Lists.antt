@@ -11,10 +11,11 @@ use Rattle.archive_table.specs.Table.{Maps, Taken, Grant, MergesIntoOwn, IsMerge
 use Rattle.archive_table.specs.Keeper.{Keeping, keeping, KeepsOne, KeepsMaps, StepKeeps}
 use Rattle.archive_model.specs.World.{Event, begin, deliver, client_times_out, server_times_out, stray, restart, World, WorldStep, Origin, RunFrom, first_world, happens, AllMerged, unknown_keep}
 use Rattle.archive_model.specs.Restarts.{DeliveryKeeps, EventKeeps, RunKeeps}
-use Rattle.archive_theorem.proofs.Readability.{readable_or_not}
+use Rattle.tws_reader.proofs.Readability.{readable_or_not}
 use Rattle.archive_theorem.proofs.Invariant.{AreBest, first-best}
 use Rattle.archive_theorem.proofs.Remaining.{StepTakes, step-takes, GrantedBy}
-use Rattle.archive_theorem.proofs.Collecting.{best-collected, step-best}
+use Rattle.tws_best.proofs.Collections.{best-collected}
+use Rattle.archive_theorem.proofs.Collecting.{step-best}
 
 -- ---- whether a collection has changed
 

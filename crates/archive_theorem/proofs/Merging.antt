@@ -9,7 +9,7 @@ use Rattle.tws_best.proofs.Bests.{own_best}
 use Rattle.tws_best.proofs.Sets.{one_more_text, one_more_unreadable}
 use Rattle.archive_table.specs.Table.{Maps, Taken, IsFileMerge, MergesIntoOwn, IsMerged}
 use Rattle.archive_theorem.specs.Headline.{files_of}
-use Rattle.archive_theorem.proofs.Readability.{readable_or_not}
+use Rattle.tws_reader.proofs.Readability.{readable_or_not}
 use Rattle.archive_theorem.proofs.Invariant.{AreBest}
 
 -- a file of this ruleset is merged into its collection

@@ -12,11 +12,11 @@ use Rattle.tftp_ends.specs.Ends.{Verdict, sender_start, data_packet}
 use Rattle.tftp_ends.proofs.Steps.{IsSender-start, start-reads_back}
 use Rattle.tws_file.specs.declared.«ruleset».Ruleset.{Ruleset}
 use Rattle.tws_file.specs.declared.«ruleset».Ruleset.TheVariants.{Lynx, Ms}
-use Rattle.tws_best.specs.Best.{collection_text}
+use Rattle.tws_best.specs.Best.{collection_text, IsBestOver}
 use Rattle.archive_table.specs.Table.{End, Taken, Transfer, sending, at_port, with_live, transfer_at, map_of, out_from, refuses}
 use Rattle.tws_file.specs.Names.{ruleset_named}
 use Rattle.archive_model.specs.World.{Datagram, World, Opening, Asked, to_write, to_read, after_request, Extends}
-use Rattle.archive_theorem.specs.Headline.{IsOwn, IsBestOver, files_of}
+use Rattle.archive_theorem.specs.Headline.{IsOwn, files_of}
 use Rattle.archive_model.proofs.Places.{Has, Has-last, Has-push, at-prefix, at-last, before_last, IsPrefix-same, IsPrefix-push, either}
 use Rattle.archive_theorem.proofs.Keyed.{NewOrOld, lookup-insert_entry, apart-insert_entry}
 use Rattle.archive_theorem.proofs.Claims.{HasBegun, HasGet, HasOpened, IsStranger, IsTextOf, Serves, ServesBlock, AsksToRead, AsksToWrite, IsHonest, IsBound, IsLiveEnd, IsLive, IsUntaken, IsAskedBy, IsOpening, IsTaken}

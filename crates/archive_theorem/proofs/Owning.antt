@@ -2,11 +2,11 @@
 use Rattle.std.proofs.Common.{◌≡◌, ℕ, List, take, refl, ap, sym, ◌∙◌, subst}
 use Rattle.tftp_packet.specs.declared.endpoint.Endpoint.{Endpoint}
 use Rattle.tws_file.specs.declared.«ruleset».Ruleset.{Ruleset}
-use Rattle.tws_best.specs.Best.{Collected, collection_text}
+use Rattle.tws_best.specs.Best.{Collected, collection_text, IsBestOver}
 use Rattle.tws_best.proofs.Sets.{one_collection}
 use Rattle.archive_client.specs.Client.{put, get}
 use Rattle.archive_model.specs.World.{Begun, to_read, Opening, Past, World, Extends}
-use Rattle.archive_theorem.specs.Headline.{Owns, IsOwn, HasOwnPorts, HasOperation, IsBestOver, files_of}
+use Rattle.archive_theorem.specs.Headline.{Owns, IsOwn, HasOwnPorts, HasOperation, files_of}
 use Rattle.archive_model.proofs.Places.{Has, at-prefix, Has-contains, Has-from_contains, one_at, Has-prefix}
 use Rattle.archive_theorem.proofs.Claims.{HasBegun, HasPut, HasGet, IsStranger, HasOpened, Serves}
 

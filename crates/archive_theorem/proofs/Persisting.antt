@@ -9,7 +9,8 @@ use Rattle.archive_model.specs.World.{Event, begin, deliver, client_times_out, s
 use Rattle.archive_model.specs.Restarts.{IsTextAt, HasKept, HaveOwnRuleset, DeliveryKeeps, AreAlike, EventKeeps, RunKeeps, loaded_server, RestartsFrom, FailsOutside, LoadsAs}
 use Rattle.archive_theorem.proofs.Invariant.{AreBest, first-best}
 use Rattle.archive_theorem.proofs.Remaining.{timeout_leaves, StepTakes, begins_remain, waits_remain, strays_remain, step-takes, GrantedBy}
-use Rattle.archive_theorem.proofs.Collecting.{best-collected, step-best, last-best}
+use Rattle.tws_best.proofs.Collections.{best-collected}
+use Rattle.archive_theorem.proofs.Collecting.{step-best, last-best}
 use Rattle.archive_theorem.proofs.Loading.{step-stays_kept, loads-the_same, fails-outside, FitBoth, Any, text_itself, loads-as, loads_itself, HasBoth, step-both, alike-both, maps_kept}
 use Rattle.tws_file.specs.declared.«ruleset».Ruleset.{Ruleset}
 

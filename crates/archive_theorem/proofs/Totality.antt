@@ -11,7 +11,7 @@ use Rattle.tws_best.proofs.Sets.{one_collection}
 use Rattle.archive_table.specs.Table.{Maps, Taken, Grant, IsFileMerge, MergesIntoOwn, IsMerged}
 use Rattle.archive_model.specs.World.{Event, World, WorldStep, Origin, RunFrom, first_world, last_world, event_happens, happens, run_from, AllMerged, asked_by}
 use Rattle.archive_model.proofs.Places.{at-last}
-use Rattle.archive_theorem.proofs.Readability.{readable_or_not}
+use Rattle.tws_reader.proofs.Readability.{readable_or_not}
 use Rattle.archive_theorem.proofs.Invariant.{AreBest, first-best}
 use Rattle.archive_theorem.proofs.Merging.{best-taken}
 use Rattle.archive_theorem.proofs.Remaining.{TakesOrRemain, event-takes}

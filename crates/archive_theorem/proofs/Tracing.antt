@@ -8,8 +8,8 @@ use Rattle.std.proofs.lemmas.Slice.Eq.{bytes_eq-Decides}
 use Rattle.tftp_packet.specs.declared.endpoint.Endpoint.{Endpoint}
 use Rattle.archive_table.specs.Table.{Maps, Grant, Taken, IsMerged, Transfer, is_same, transfer_at, empty_maps}
 use Rattle.archive_client.specs.Client.{Operation, is_too_long}
-use Rattle.archive_model.specs.World.{Datagram, deliver, stray, WorldStep, World, begins, begins_unless, request_comes, server_receives, arrives, delivers, strays_in, event_happens, happens, run_from, start, IsFree, MayDeliver, AllMayHappen, AllMerged, Origin, RunFrom, last_world, empty_origin, first_world}
-use Rattle.archive_theorem.specs.Traces.{Deed, starts, receives, client_waits_long, server_waits_long, loads, Member, is_same_datagram, position_after, position_of, named_in, server_comes, comes, after_deed, trace_from, delivery, events_of, steps_with, member_steps, trace_steps, AllDeedsMerged, TraceFrom, trace_end}
+use Rattle.archive_model.specs.World.{Datagram, Event, deliver, stray, unknown_keep, WorldStep, World, begins, begins_unless, request_comes, server_receives, arrives, delivers, strays_in, event_happens, happens, run_from, start, ends_at, IsFree, MayDeliver, MayHappen, AllMayHappen, AllMerged, Origin, RunFrom, last_world, empty_origin, first_world}
+use Rattle.archive_theorem.specs.Traces.{Deed, starts, receives, client_waits_long, server_waits_long, loads, ends_in_keep, Member, is_same_datagram, position_after, position_of, named_in, server_comes, comes, ends_here, after_deed, trace_from, at_place, delivery, events_of, steps_with, member_steps, trace_steps, AllDeedsMerged, TraceFrom, trace_end}
 use Rattle.archive_theorem.specs.Headline.{HasOwnPorts, ClientsHeadline, Headline}
 use Rattle.archive_theorem.proofs.Happening.{run-append}
 use Rattle.archive_theorem.proofs.Concluding.{headline, run-clients}
@@ -101,26 +101,47 @@ begins_fits w e operation away short =
 
 -- ---- one member
 
--- a datagram that is named is delivered, after it has entered if it is new
-receives_fits : (w : World) (d : Datagram) (spare : ℕ) (grant : Grant) (maps : Maps) (position : Option ℕ) →
-    position_of d w.net ≡ position → AllMayHappen (steps_with grant maps (delivery position d spare w.net)) w →
-    run_from (steps_with grant maps (delivery position d spare w.net)) w ≡ comes (d.target.host == w.home.host) spare grant maps d
-    (named_in position d w)
-receives_fits w d spare grant maps (Some position) is may = delivers_fits w d position spare grant maps (found_at d w.net position is) may.0
-receives_fits w d spare grant maps None is may =
-    let entered = strays_fits w d may.0.0 may.0.1 in
-    let then = subst (λ (v : World). MayDeliver (length w.net) spare v) entered may.1.0 in
-    ap (λ (v : World). event_happens (deliver (length w.net) spare) grant maps v) entered
-    ∙ delivers_fits (strays_in d w) d (length w.net) spare grant maps (at-last w.net d) then
+-- an event at the place of a datagram does this
+abbrev DoesAt : (home : Endpoint) → Datagram → Grant → Maps → (event : ℕ → Event) → (does : World → World) → Type 0
+DoesAt home d grant maps event does =
+    (v : World) (index : ℕ) → v.home ≡ home → slice_get v.net index ≡ Some d → MayHappen (event index) v →
+    event_happens (event index) grant maps v ≡ does v
+
+-- if the datagram is named, the event does so after the datagram has entered if it is new
+module _ (w : World) (d : Datagram) (grant : Grant) (maps : Maps) (event : ℕ → Event) (does : World → World)
+    (fits : DoesAt w.home d grant maps event does) where
+  place_fits : (position : Option ℕ) → position_of d w.net ≡ position → AllMayHappen (steps_with grant maps (at_place position d event w.net)) w →
+      run_from (steps_with grant maps (at_place position d event w.net)) w ≡ does (named_in position d w)
+  place_fits (Some position) is may = fits w position refl (found_at d w.net position is) may.0
+  place_fits None is may =
+      let entered = strays_fits w d may.0.0 may.0.1 in
+      let then = subst (λ (v : World). MayHappen (event (length w.net)) v) entered may.1.0 in
+      ap (λ (v : World). event_happens (event (length w.net)) grant maps v) entered
+      ∙ fits (strays_in d w) (length w.net) refl (at-last w.net d) then
+
+-- a delivery
+receives_at : (w : World) (d : Datagram) (spare : ℕ) (grant : Grant) (maps : Maps) →
+    DoesAt w.home d grant maps (λ index. deliver index spare) (comes (d.target.host == w.home.host) spare grant maps d)
+receives_at w d spare grant maps v index same is may =
+    delivers_fits v d index spare grant maps is may
+    ∙ ap (λ (home : Endpoint). comes (d.target.host == home.host) spare grant maps d v) same
+
+-- a keep whose outcome is unknown
+ends_at_place : (w : World) (d : Datagram) (found : Bool) (grant : Grant) (maps : Maps) →
+    DoesAt w.home d grant maps (λ index. unknown_keep index found) (ends_here found maps d)
+ends_at_place w d found grant maps v index same is may = ap (λ (o : Option Datagram). ends_at o found maps v) is
 
 -- so the steps of a deed, if they may happen, do what it does
 pub deed_fits : (w : World) (deed : Deed) (grant : Grant) (maps : Maps) → AllMayHappen (steps_with grant maps (events_of deed w.net)) w →
     run_from (steps_with grant maps (events_of deed w.net)) w ≡ after_deed deed grant maps w
 deed_fits w (starts e operation) grant maps may = begins_fits w e operation may.0.0 may.0.1
-deed_fits w (receives d spare) grant maps may = receives_fits w d spare grant maps (position_of d w.net) refl may
+deed_fits w (receives d spare) grant maps may =
+    place_fits w d grant maps (λ index. deliver index spare) _ (receives_at w d spare grant maps) (position_of d w.net) refl may
 deed_fits w (client_waits_long e) grant maps may = refl
 deed_fits w (server_waits_long port) grant maps may = refl
 deed_fits w loads grant maps may = refl
+deed_fits w (ends_in_keep d found) grant maps may =
+    place_fits w d grant maps (λ index. unknown_keep index found) (ends_here found maps d) (ends_at_place w d found grant maps) (position_of d w.net) refl may
 
 -- ---- a trace
 
@@ -150,30 +171,35 @@ none_taken : (w : World) → MergesTo w w
 none_taken w t e = let more = ap length e ∙ length-append w.taken (t ∷ []) in absurd (omega arith)
 
 -- the file that a deed takes is that of its steps
-receives_merged : (w : World) (d : Datagram) (spare : ℕ) (grant : Grant) (maps : Maps) (position : Option ℕ) →
-    position_of d w.net ≡ position → AllMayHappen (steps_with grant maps (delivery position d spare w.net)) w →
-    MergesTo w (comes (d.target.host == w.home.host) spare grant maps d (named_in position d w)) →
-    AllMerged (steps_with grant maps (delivery position d spare w.net)) w
-receives_merged w d spare grant maps (Some position) is may merged =
-    (subst (MergesTo w) (sym (receives_fits w d spare grant maps (Some position) is may)) merged, tt)
-receives_merged w d spare grant maps None is may merged =
-    let entered = strays_fits w d may.0.0 may.0.1 in
-    let last = sym (receives_fits w d spare grant maps None is may) in
-    let then : MergesTo (strays_in d w) (run_from (steps_with grant maps (delivery None d spare w.net)) w) = subst (MergesTo (strays_in d w)) last merged in
-    let strays : MergesTo w (event_happens (stray d) grant maps w) = subst (MergesTo w) (sym entered) (none_taken w) in
-    let delivers : MergesTo (event_happens (stray d) grant maps w) (run_from (steps_with grant maps (delivery None d spare w.net)) w) =
-    subst (λ (v : World). MergesTo v (run_from (steps_with grant maps (delivery None d spare w.net)) w)) (sym entered) then in
-    (strays, (delivers, tt))
+module _ (w : World) (d : Datagram) (grant : Grant) (maps : Maps) (event : ℕ → Event) (does : World → World)
+    (fits : DoesAt w.home d grant maps event does) where
+  place_merged : (position : Option ℕ) → position_of d w.net ≡ position → AllMayHappen (steps_with grant maps (at_place position d event w.net)) w →
+      MergesTo w (does (named_in position d w)) → AllMerged (steps_with grant maps (at_place position d event w.net)) w
+  place_merged (Some position) is may merged =
+      (subst (MergesTo w) (sym (place_fits w d grant maps event does fits (Some position) is may)) merged, tt)
+  place_merged None is may merged =
+      let steps = steps_with grant maps (at_place None d event w.net) in
+      let entered = strays_fits w d may.0.0 may.0.1 in
+      let last = sym (place_fits w d grant maps event does fits None is may) in
+      let then : MergesTo (strays_in d w) (run_from steps w) = subst (MergesTo (strays_in d w)) last merged in
+      let strays : MergesTo w (event_happens (stray d) grant maps w) = subst (MergesTo w) (sym entered) (none_taken w) in
+      let delivers : MergesTo (event_happens (stray d) grant maps w) (run_from steps w) =
+      subst (λ (v : World). MergesTo v (run_from steps w)) (sym entered) then in
+      (strays, (delivers, tt))
 
 -- for each deed
 deed_merged : (w : World) (deed : Deed) (grant : Grant) (maps : Maps) → AllMayHappen (steps_with grant maps (events_of deed w.net)) w →
     MergesTo w (after_deed deed grant maps w) → AllMerged (steps_with grant maps (events_of deed w.net)) w
 deed_merged w (starts e operation) grant maps may merged =
     (subst (MergesTo w) (sym (begins_fits w e operation may.0.0 may.0.1)) merged, tt)
-deed_merged w (receives d spare) grant maps may merged = receives_merged w d spare grant maps (position_of d w.net) refl may merged
+deed_merged w (receives d spare) grant maps may merged =
+    place_merged w d grant maps (λ index. deliver index spare) _ (receives_at w d spare grant maps) (position_of d w.net) refl may merged
 deed_merged w (client_waits_long e) grant maps may merged = (merged, tt)
 deed_merged w (server_waits_long port) grant maps may merged = (merged, tt)
 deed_merged w loads grant maps may merged = (merged, tt)
+deed_merged w (ends_in_keep d found) grant maps may merged =
+    place_merged w d grant maps (λ index. unknown_keep index found) (ends_here found maps d) (ends_at_place w d found grant maps) (position_of d w.net) refl
+    may merged
 
 -- two parts of a run, in each of which files make the collections
 pub merged_append : (xs ys : List WorldStep) (w : World) → AllMerged xs w → AllMerged ys (run_from xs w) → AllMerged (xs ++ ys) w

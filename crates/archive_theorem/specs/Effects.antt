@@ -5,11 +5,11 @@
 use Rattle.std.specs.Prelude.{◌≡◌, ◌≢◌, ℕ, ◌≤◌, false, List, [], ◌∷◌, ◌++◌, take, length, Contains}
 use Rattle.tftp_packet.specs.declared.endpoint.Endpoint.{Endpoint}
 use Rattle.tws_file.specs.declared.«ruleset».Ruleset.{Ruleset}
-use Rattle.tws_best.specs.Best.{collection_text}
+use Rattle.tws_best.specs.Best.{collection_text, IsBestOver}
 use Rattle.archive_table.specs.Table.{Taken, IsMerged, map_of}
 use Rattle.archive_client.specs.Client.{Operation, put, get, is_too_long}
 use Rattle.archive_model.specs.World.{Begun, begin, to_read, Got, WorldStep, World, happens, run_from}
-use Rattle.archive_theorem.specs.Headline.{IsOwn, IsBestOver, files_of}
+use Rattle.archive_theorem.specs.Headline.{IsOwn, files_of}
 
 -- this operation has begun at the endpoint
 abbrev pub HasBegunWith : World → Endpoint → Operation → Type 0

@@ -4,7 +4,7 @@ use Rattle.std.specs.Prelude.{◌≡◌, ◌⊎◌, ℕ, ◌≤◌, List, [], �
 use Rattle.tftp_packet.specs.declared.endpoint.Endpoint.{Endpoint}
 use Rattle.tws_file.specs.declared.«ruleset».Ruleset.{Ruleset}
 use Rattle.tws_file.specs.declared.«ruleset».Ruleset.TheVariants.{Lynx, Ms}
-use Rattle.tws_best.specs.Best.{Collected, IsCollectionOf, collection_text}
+use Rattle.tws_best.specs.Best.{Collected, IsCollectionOf, collection_text, IsBestOver}
 use Rattle.archive_table.specs.Table.{Taken}
 use Rattle.archive_client.specs.Client.{put, get}
 use Rattle.archive_model.specs.World.{Datagram, Begun, Origin, given, begin, stray, WorldStep, run_from, Opening, to_read, Got, Past, World}
@@ -44,10 +44,6 @@ HasOwnPorts w = OwnPorts w.begun w.opened w.strays
 
 abbrev pub files_of : List Taken → List (List ℕ)
 files_of taken = map (λ (t : Taken). t.file) taken
-
--- the text of the best over the readable files of this ruleset among these, in whatever order they arrived
-abbrev pub IsBestOver : Ruleset → (files : List (List ℕ)) → (text : List ℕ) → Type 0
-IsBestOver rules files text = (c : Collected) × IsCollectionOf rules files c × (text ≡ collection_text c)
 
 -- ---- the four statements
 

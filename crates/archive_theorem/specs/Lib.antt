@@ -6,3 +6,5 @@ pub mod Durable
 pub mod Effects
 pub mod Freeing
 pub mod Progress
+pub mod Patience
+pub mod Errors

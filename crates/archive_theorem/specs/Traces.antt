@@ -7,7 +7,7 @@ use Rattle.std.specs.Str.{bytes_eq}
 use Rattle.tftp_packet.specs.declared.endpoint.Endpoint.{Endpoint}
 use Rattle.archive_table.specs.Table.{Maps, Grant, Taken, IsMerged, memory_verdict, is_same, table_request, table_datagram, table_timeout}
 use Rattle.archive_client.specs.Client.{Operation}
-use Rattle.archive_model.specs.World.{Datagram, Event, begin, deliver, client_times_out, server_times_out, stray, restart, WorldStep, World, Origin, first_world, client_at, after_request, after_transfer, asked_of, begins, client_receives, client_waits, strays_in, restarts, run_from, AllMayHappen}
+use Rattle.archive_model.specs.World.{Datagram, Event, begin, deliver, client_times_out, server_times_out, stray, restart, unknown_keep, WorldStep, World, Origin, first_world, client_at, after_request, after_transfer, asked_of, begins, client_receives, client_waits, strays_in, restarts, wanted_of, ends_if, run_from, AllMayHappen}
 
 -- what one end does
 pub data Deed : Type 0 where
@@ -20,6 +20,9 @@ pub data Deed : Type 0 where
   server_waits_long : (port : ℕ) → Deed
   -- the server restarts with the collections that it has kept
   loads : Deed
+  -- This datagram completes a file, and it is not known whether the collection that it makes is kept: the server answers that
+  -- it is not, and ends. The next start finds that collection, or the one that was kept before.
+  ends_in_keep : (datagram : Datagram) (found : Bool) → Deed
 
 -- a deed, and what it was granted, as in a step
 pub record Member : Type 0 where
@@ -58,6 +61,9 @@ abbrev pub comes : (ours : Bool) → (spare : ℕ) → Grant → Maps → Datagr
 comes true spare grant maps d w = server_comes (d.target.port == w.server.request) spare grant maps d w
 comes false spare grant maps d w = client_receives (client_at d.target w) grant d w
 
+abbrev pub ends_here : (found : Bool) → Maps → Datagram → World → World
+ends_here found maps d w = ends_if (wanted_of (d.target.host == w.home.host) d w) found maps d w
+
 abbrev pub after_deed : Deed → Grant → Maps → World → World
 after_deed (starts e operation) grant maps w = begins e operation w
 after_deed (receives d spare) grant maps w =
@@ -65,6 +71,7 @@ after_deed (receives d spare) grant maps w =
 after_deed (client_waits_long e) grant maps w = client_waits (client_at e w) e w
 after_deed (server_waits_long port) grant maps w = after_transfer (table_timeout port w.server) w
 after_deed loads grant maps w = restarts w
+after_deed (ends_in_keep d found) grant maps w = ends_here found maps d (named_in (position_of d w.net) d w)
 
 abbrev pub trace_from : List Member → World → World
 trace_from [] w = w
@@ -81,10 +88,13 @@ AllDeedsMerged (m ∷ ms) w = DeedMerged m w × AllDeedsMerged ms (after_deed m.
 
 -- ---- the steps that a trace makes
 
--- a datagram that was sent is delivered; another one enters the network first
+-- an event at the place of a datagram; one that was not sent enters the network first
+abbrev pub at_place : (position : Option ℕ) → Datagram → (event : ℕ → Event) → List Datagram → List Event
+at_place (Some position) d event net = event position ∷ []
+at_place None d event net = stray d ∷ event (length net) ∷ []
+
 abbrev pub delivery : (position : Option ℕ) → Datagram → (spare : ℕ) → List Datagram → List Event
-delivery (Some position) d spare net = deliver position spare ∷ []
-delivery None d spare net = stray d ∷ deliver (length net) spare ∷ []
+delivery position d spare net = at_place position d (λ index. deliver index spare) net
 
 abbrev pub events_of : Deed → List Datagram → List Event
 events_of (starts e operation) net = begin e operation ∷ []
@@ -92,6 +102,7 @@ events_of (receives d spare) net = delivery (position_of d net) d spare net
 events_of (client_waits_long e) net = client_times_out e ∷ []
 events_of (server_waits_long port) net = server_times_out port ∷ []
 events_of loads net = restart ∷ []
+events_of (ends_in_keep d found) net = at_place (position_of d net) d (λ index. unknown_keep index found) net
 
 abbrev pub steps_with : Grant → Maps → List Event → List WorldStep
 steps_with grant maps [] = []

@@ -3,6 +3,8 @@
 ghost use Rattle.std.specs.Prelude.{◌≡◌, ◌≢◌, ℕ, ◌≤◌, true, false, List, length, [], ◌∷◌, ◌++◌, Contains, Some, Option};
 ghost use Rattle.archive_theorem.specs.Samples.{request_twice, late_ack, crossed_get, unanswered, strange_put, restart_between, empty_put, empty_get, barred_strays, opened_again, reused_elsewhere, begun_twice, opened_twice, strayed_there, FailsBy, sample_client, summary_of, sample_opening, one_put_summary, no_file_summary, crossed_get_summary, strange_put_summary, restart_summary, empty_put_summary, empty_get_summary};
 ghost use Rattle.tftp_packet.specs.declared.endpoint.Endpoint.{Endpoint};
+ghost use Rattle.tftp_packet.specs.declared.cause.Cause.{Cause};
+ghost use Rattle.tftp_packet.specs.declared.cause.Cause.TheVariants.{Refused};
 ghost use Rattle.archive_client.specs.Client.{Operation, put, is_too_long};
 ghost use Rattle.archive_theorem.specs.Reuse.{BeginKeepsOwn, OpeningKeepsOwn, StrayKeepsOwn, IsOwnByTests};
 ghost use Rattle.archive_model.specs.World.{Begun, Datagram, Got, Opening, to_write, World, Event, WorldStep, AreOver, Origin, empty_origin, RunFrom, first_world, last_world, happens, start, run, run_from, HasMerged, AllMerged, asked_by, AllMayHappen};
@@ -13,7 +15,9 @@ ghost use Rattle.tws_best.specs.Best.{Collected, IsCollected, collection_text};
 ghost use Rattle.archive_table.specs.Keeper.{Keeping, LoadedFrom};
 ghost use Rattle.archive_model.specs.Restarts.{HasKept, HaveOwnRuleset, LoadsAs, kept_texts, StepStaysKept, LoadsTheSame, FailsOutside, RunKeeps, RestartsFrom};
 ghost use Rattle.archive_theorem.specs.Effects.{TakesEffect, ReadsAtOnce, FetchesNoLess, FetchesNone};
+ghost use Rattle.archive_theorem.specs.Errors.{HasFailed, IsNotTaken, IsTakenAtMostOnce, HasFetchedNothing};
 ghost use Rattle.archive_theorem.specs.Freeing.{IsFreed};
+ghost use Rattle.archive_theorem.specs.Patience.{IsHeld, HoldsByBlocks};
 ghost use Rattle.archive_theorem.specs.Progress.{CanPut, IsUnstuck, CanGet, GetIsUnstuck};
 ghost use Rattle.archive_theorem.specs.Durable.{AreNoWorse, LoadsPromised, CutsShort};
 ghost use Rattle.archive_theorem.specs.Traces.{Member, trace_from, trace_steps, TraceFrom, trace_end};
@@ -91,6 +95,25 @@ pub fn folder_law()
         IsUnstuck (last_world r) e file }
     ensures get_unstuck { (o : Origin) (r : RunFrom o) (e : Endpoint) («ruleset» : Ruleset) → e.host ≢ o.home.host →
         has_long_text (map_of «ruleset» (last_world r).server.maps) ≡ false → GetIsUnstuck (last_world r) e «ruleset» }
+{}
+
+/// What an error means, for each client whose ports are its own. If it failed by an ERROR other than 5, unknown transfer, its file is
+/// not taken, neither then nor in any run that goes on from there; unless it was not known whether it was kept, and the next start
+/// found it. However it failed, its file is taken at most once, perhaps later; and a get that failed has fetched nothing.
+pub fn error_law()
+    ensures refused { (o : Origin) (r : RunFrom o) (before after : List WorldStep) → r.steps ≡ before ++ after → (e : Endpoint) (code : ℕ) →
+        HasFailed (run_from before (first_world o)) e (Refused code) → code ≢ 5 → IsOwn (last_world r) e → IsNotTaken (last_world r).past e }
+    ensures once { (o : Origin) (r : RunFrom o) (before after : List WorldStep) → r.steps ≡ before ++ after → (e : Endpoint) (why : Cause) →
+        HasFailed (run_from before (first_world o)) e why → IsOwn (last_world r) e → IsTakenAtMostOnce (last_world r).past e }
+    ensures nothing { (o : Origin) (r : RunFrom o) (before after : List WorldStep) → r.steps ≡ before ++ after → (e : Endpoint) (why : Cause) →
+        HasFailed (run_from before (first_world o)) e why → IsOwn (last_world r) e → HasFetchedNothing (last_world r).past e }
+{}
+
+/// No place of the server is held without blocks from the peer. In any stretch of a run over which one transfer is at a port, the
+/// port times out fewer than `MISSES` times, and `MISSES` times for each block of the transfer that is received or acknowledged there.
+pub fn places_law()
+    ensures { (o : Origin) (r : RunFrom o) (before after : List WorldStep) → r.steps ≡ before ++ after → (port : ℕ) →
+        IsHeld port after (run_from before (first_world o)) → HoldsByBlocks port (run_from before (first_world o)) after }
 {}
 
 /// For every trace, which names the datagrams that arrive: if each event that it makes may happen, so that each

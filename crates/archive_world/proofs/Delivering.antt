@@ -9,23 +9,21 @@ use Rattle.archive_table.specs.Table as table
 use Rattle.tftp_ends.specs.Ends.{Verdict, granted}
 use Rattle.tws_file.specs.declared.«ruleset».Ruleset.{Ruleset}
 use Rattle.archive_table.specs.Keeper.{Keeping, KeepsOne, KeepsMaps, FailsKeep, FailsKeepOf, RefusesKeep, StepKeeps}
-use Rattle.archive_table.proofs.SamePort.{request_same, datagram_same}
 use Rattle.archive_world.specs.declared.event_fault.EventFault.{EventFault}
 use Rattle.archive_world.specs.declared.event_fault.EventFault.TheVariants as fault
-use Rattle.archive_model.specs.World.{deliver, World, Datagram, Opening, server_endpoint, client_at, client_receives, opened_with, taken_with, asked_of, after_request, event_happens, HasMerged, IsFree, MayDeliver}
+use Rattle.archive_model.specs.World.{deliver, World, Datagram, Opening, client_at, client_receives, opened_with, taken_with, asked_of, after_request, event_happens, HasMerged, IsFree, MayDeliver, wanted_at, wanted_of, wanted_by}
 use Rattle.archive_theorem.specs.Headline.{OwnPorts, HasOwnPorts}
 use Rattle.archive_theorem.specs.Reuse.{was_opened}
-use Rattle.archive_model.specs.Restarts.{EventKeeps, wanted_at, wanted_of, wanted_by}
 use Rattle.archive_theorem.specs.Traces.{server_comes, comes}
 use Rattle.archive_world.specs.Inside.{ReceivesAtPort}
 use Rattle.tws_best.specs.Best.{Collected}
-use Rattle.archive_world.specs.Replays.{IsDue, Makes, Reuses}
+use Rattle.archive_world.specs.Replays.{KeepsOnly, Changes, IsDue, Makes, Reuses}
 use Rattle.archive_world.specs.Exits.{Comes}
 use Rattle.archive_theorem.proofs.Remaining.{Remain, client_remains, request_remains}
 use Rattle.archive_theorem.proofs.Reusing.{opening-keeps_own}
 use Rattle.archive_model.proofs.Endpoints.{endpoint_is}
 use Rattle.archive_theorem.proofs.Totality.{not_more, one_last}
-use Rattle.archive_world.proofs.Exiting.{no_restart, remain-merged}
+use Rattle.archive_world.proofs.Exiting.{no_restart, remain-merged, stays-there}
 use Rattle.archive_theorem.proofs.Tracing.{delivers_fits}
 
 -- ---- a keeper that had a log still has it
@@ -60,7 +58,7 @@ none_reports no_memory wanted old new before keeps = some_none before keeps
 none_reports unkept wanted old new before keeps = none_fails_of old keeps.0 before keeps.2
 
 -- so there is a log after the step
-reported_after : (grant : Grant) (wanted : Option Taken) (old new : Maps) (before : List Keeping) (now : Option (List Keeping)) →
+pub reported_after : (grant : Grant) (wanted : Option Taken) (old new : Maps) (before : List Keeping) (now : Option (List Keeping)) →
     StepKeeps grant wanted old new (Some before) now → (after : List Keeping) × (now ≡ Some after)
 reported_after grant wanted old new before None keeps = absurd (none_reports grant wanted old new before keeps)
 reported_after grant wanted old new before (Some after) keeps = (after, refl)
@@ -68,13 +66,13 @@ reported_after grant wanted old new before (Some after) keeps = (after, refl)
 -- ---- a keep that was refused
 
 -- a keep that failed was of a collection that changed
-changed_of : (old new : Maps) (before after : Option (List Keeping)) → FailsKeepOf old new before after → new ≢ old
+pub changed_of : (old new : Maps) (before after : Option (List Keeping)) → FailsKeepOf old new before after → new ≢ old
 changed_of old new before after (inl lynx) = λ is. lynx.1 (ap (λ (m : Maps). m.lynx) is)
 changed_of old new before after (inr ms) = λ is. ms.1 (ap (λ (m : Maps). m.ms) is)
 
 -- a keep is refused only if the file would have changed a collection
 kept_due : (grant : Grant) (wanted : Option Taken) (t : Taken) (old new : Maps) (before after : Option (List Keeping)) → grant ≡ unkept →
-    wanted ≡ Some t → StepKeeps grant wanted old new before after → (maps : Maps) × IsMerged t.file old maps × (maps ≢ old)
+    wanted ≡ Some t → StepKeeps grant wanted old new before after → Changes t old
 kept_due grant wanted t old new before after is wants keeps =
     let refused : RefusesKeep wanted old before after = subst (λ (g : Grant). StepKeeps g wanted old new before after) is keeps in (
       refused.0,
@@ -82,7 +80,7 @@ kept_due grant wanted t old new before after is wants keeps =
       changed_of old refused.0 before after refused.2,
     )
 
-none_some : (t : Taken) → None ≡ Some t → ⊥
+pub none_some : (t : Taken) → None ≡ Some t → ⊥
 none_some t is = true≢false (sym (ap (λ (o : Option Taken). is_some o) is))
 
 -- ---- a file that was taken
@@ -109,23 +107,23 @@ request_memory false = refl
 
 module _ (w v : World) (d : Datagram) (index spare : ℕ) (there : slice_get w.net index ≡ Some d) where
   -- it may be delivered if the spare port is free
-  abbrev may_deliver : (d.target ≡ record { host = server_endpoint.host; port = w.server.request } → IsFree spare w) → MayDeliver index spare w
+  abbrev may_deliver : (d.target ≡ record { host = w.home.host; port = w.server.request } → IsFree spare w) → MayDeliver index spare w
   may_deliver free = record { datagram = d; is = there; spare_is = free }
 
   -- the world after the delivery, by the host at which the datagram arrives
-  delivered : (grant : Grant) (maps : Maps) → MayDeliver index spare w → (ours : Bool) → (d.target.host == server_endpoint.host) ≡ ours →
+  delivered : (grant : Grant) (maps : Maps) → MayDeliver index spare w → (ours : Bool) → (d.target.host == w.home.host) ≡ ours →
       event_happens (deliver index spare) grant maps w ≡ comes ours spare grant maps d w
   delivered grant maps may ours is =
       delivers_fits w d index spare grant maps there may ∙ ap (λ (b : Bool). comes b spare grant maps d w) is
 
   -- the file that the delivery takes if everything is granted
-  wanted_here : (ours : Bool) → (d.target.host == server_endpoint.host) ≡ ours → wanted_by (slice_get w.net index) w ≡ wanted_of ours d w
+  wanted_here : (ours : Bool) → (d.target.host == w.home.host) ≡ ours → wanted_by (slice_get w.net index) w ≡ wanted_of ours d w
   wanted_here ours is =
       ap (λ (o : Option Datagram). wanted_by o w) there ∙ ap (λ (b : Bool). wanted_of b d w) is
 
   -- ---- to a client
 
-  module _ (away : d.target.host ≢ server_endpoint.host) where
+  module _ (away : d.target.host ≢ w.home.host) where
     -- it may be delivered
     away_may : MayDeliver index spare w
     away_may = may_deliver (λ to. absurd (away (ap (λ (e : Endpoint). e.host) to)))
@@ -133,21 +131,17 @@ module _ (w v : World) (d : Datagram) (index spare : ℕ) (there : slice_get w.n
     -- no keep is asked for
     away_due : (grant : Grant) → IsDue (deliver index spare) grant w
     away_due grant = λ is t wants.
-        absurd (none_some t (sym (wanted_here false (ne_eqb d.target.host server_endpoint.host away)) ∙ wants))
+        absurd (none_some t (sym (wanted_here false (ne_eqb d.target.host w.home.host away)) ∙ wants))
 
     -- the delivery is what the client does
     received_as : (grant : Grant) → event_happens (deliver index spare) grant empty_maps w ≡ client_receives (client_at d.target w) grant d w
-    received_as grant = delivered grant empty_maps away_may false (ne_eqb d.target.host server_endpoint.host away)
+    received_as grant = delivered grant empty_maps away_may false (ne_eqb d.target.host w.home.host away)
 
     -- it reuses no port
     received_own : (found : Option Client) (grant : Grant) → HasOwnPorts w → HasOwnPorts (client_receives found grant d w)
     received_own None grant own = own
     received_own (Some c) grant own =
         record { operations = own.operations; openings = own.openings; strangers = own.strangers }
-
-    received_request : (found : Option Client) (grant : Grant) → (client_receives found grant d w).server.request ≡ w.server.request
-    received_request None grant = refl
-    received_request (Some c) grant = refl
 
     -- what it does to the world and the keeper
     received_makes : (grant : Grant) → v ≡ client_receives (client_at d.target w) grant d w → (keeper : Option (List Keeping)) →
@@ -162,26 +156,25 @@ module _ (w v : World) (d : Datagram) (index spare : ℕ) (there : slice_get w.n
           own = λ own. subst HasOwnPorts (sym is) (received_own (client_at d.target w) grant own);
           merged = remain-merged w (event_happens (deliver index spare) grant empty_maps w) (subst (Remain w) (sym (received_as grant)) remain);
           due = away_due grant;
-          keeps = λ before reports. (before, reports, inl (ap (λ (x : World). x.server.maps) is ∙ remain.1, refl));
-          stays = λ is. refl;
+          keeps = λ before reports. (before, reports, (inl (ap (λ (x : World). x.server.maps) is ∙ remain.1, refl), tt));
         }
 
     -- the result of the call for a datagram to another host
     pub receive-comes : (reported : Option (List Keeping)) → (grant : Grant) × (v ≡ client_receives (client_at d.target w) grant d w) →
         Comes (Ok tt) (deliver index spare) reported reported w v
     receive-comes reported received = (
-      ap (λ (x : World). x.server.request) received.1 ∙ received_request (client_at d.target w) received.0,
+      stays-there w v (deliver index spare) received.0 empty_maps (received.1 ∙ sym (received_as received.0)),
       λ ready. received_makes received.0 received.1 reported,
     )
 
   -- ---- to the server
 
-  module _ (ours : d.target.host ≡ server_endpoint.host) where
+  module _ (ours : d.target.host ≡ w.home.host) where
     -- the delivery is what the server does
     came_as : (grant : Grant) (maps : Maps) → MayDeliver index spare w → (request : Bool) → (d.target.port == w.server.request) ≡ request →
         event_happens (deliver index spare) grant maps w ≡ server_comes request spare grant maps d w
     came_as grant maps may request is =
-        delivered grant maps may true (eq-eqb d.target.host server_endpoint.host ours)
+        delivered grant maps may true (eq-eqb d.target.host w.home.host ours)
         ∙ ap (λ (b : Bool). server_comes b spare grant maps d w) is
 
     -- ---- to its request port
@@ -196,7 +189,7 @@ module _ (w v : World) (d : Datagram) (index spare : ℕ) (there : slice_get w.n
       may_free may =
           let both : Some may.datagram ≡ Some d = sym may.is ∙ there in
           let same : may.datagram ≡ d = cc in
-          may.spare_is (ap (λ (x : Datagram). x.target) same ∙ endpoint_is d.target server_endpoint.host w.server.request ours at)
+          may.spare_is (ap (λ (x : Datagram). x.target) same ∙ endpoint_is d.target w.home.host w.server.request ours at)
 
       -- the server's answer to the request
       abbrev answered : Verdict → table.TableAnswer
@@ -218,7 +211,7 @@ module _ (w v : World) (d : Datagram) (index spare : ℕ) (there : slice_get w.n
       asked_due : (grant : Grant) → IsDue (deliver index spare) grant w
       asked_due grant = λ is t wants.
           let none =
-          wanted_here true (eq-eqb d.target.host server_endpoint.host ours) ∙ ap (λ (b : Bool). wanted_at b d w)
+          wanted_here true (eq-eqb d.target.host w.home.host ours) ∙ ap (λ (b : Bool). wanted_at b d w)
           (eq-eqb d.target.port w.server.request at) in
           absurd (none_some t (sym none ∙ wants))
 
@@ -242,6 +235,10 @@ module _ (w v : World) (d : Datagram) (index spare : ℕ) (there : slice_get w.n
           subst (λ (b : Bool). OwnPorts w.begun (opened_with b opening w.opened) w.strays) reported (own_opened opened none own) in
           record { operations = ports.operations; openings = ports.openings; strangers = ports.strangers }
 
+      asked_is : (opened : Bool) → v ≡ asked (request_verdict opened) → IsFree spare w →
+          v ≡ event_happens (deliver index spare) (request_grant opened) empty_maps w
+      asked_is opened is free = is ∙ ap asked (sym (request_memory opened)) ∙ sym (asked_as (request_grant opened) free)
+
       -- what it does to the world and the keeper
       asked_makes : (opened : Bool) → v ≡ asked (request_verdict opened) → IsFree spare w →
           opened ≡ (answered (request_verdict opened)).step.opened → (opened ≡ true → was_opened d.source spare w.opened ≡ false) →
@@ -251,7 +248,7 @@ module _ (w v : World) (d : Datagram) (index spare : ℕ) (there : slice_get w.n
           record {
             grant = grant;
             maps = empty_maps;
-            is = is ∙ ap asked (sym (request_memory opened)) ∙ sym (asked_as grant free);
+            is = asked_is opened is free;
             may = free_may free;
             own = λ own. subst HasOwnPorts (sym is) (asked_own opened reported none own);
             merged = asked_merged grant free;
@@ -259,10 +256,12 @@ module _ (w v : World) (d : Datagram) (index spare : ℕ) (there : slice_get w.n
             keeps = λ before reports. (
               before,
               reports,
-              inl
-                  (ap (λ (x : World). x.server.maps) (is ∙ ap asked (sym (request_memory opened))) ∙ (request_remains w false None spare grant d).1, refl),
+              (
+                inl
+                    (ap (λ (x : World). x.server.maps) (is ∙ ap asked (sym (request_memory opened))) ∙ (request_remains w false None spare grant d).1, refl),
+                tt,
+              ),
             );
-            stays = λ is. refl;
           }
 
       -- an opening at a port that was opened for the peer before reuses it
@@ -294,20 +293,21 @@ module _ (w v : World) (d : Datagram) (index spare : ℕ) (there : slice_get w.n
           IsFree spare w → opened ≡ (answered (request_verdict opened)).step.opened → r ≡ Ok opened →
           (r ≡ Ok true → was_opened d.source spare w.opened ≡ false) → Comes (Ok tt) (deliver index spare) reported reported w v
       ask-comes r opened reported is free opens ok none = (
-        ap (λ (x : World). x.server.request) is ∙ request_same (request_verdict opened) spare d.source d.bytes w.server,
+        stays-there w v (deliver index spare) (request_grant opened) empty_maps (asked_is opened is free),
         λ ready. asked_makes opened is free opens (λ e. none (ok ∙ ap (λ (b : Bool). Ok b) e)) reported,
       )
 
       -- the result of the call for a request, if it fails
       pub ask-fails : (r : Result Bool EventFault) (f : EventFault) (reported : Option (List Keeping)) → r ≡ Err f →
           (r ≡ Err fault.Bad → IsFree spare w → ⊥) → (r ≡ Err fault.Reused → IsFree spare w) →
-          (r ≡ Err fault.Reused → was_opened d.source spare w.opened ≡ true) → r ≢ Err fault.NotLoaded →
+          (r ≡ Err fault.Reused → was_opened d.source spare w.opened ≡ true) → r ≢ Err fault.NotKept → r ≢ Err fault.NotLoaded →
           (r ≡ Err fault.Reused → (answered granted).step.opened ≡ true) → Comes (Err f) (deliver index spare) reported reported w v
-      ask-fails r fault.Bad reported is bad reused used loads opens = (refl, λ may. bad is (may_free may))
-      ask-fails r fault.Reused reported is bad reused used loads opens =
+      ask-fails r fault.Bad reported is bad reused used keeps loads opens = (refl, λ may due. bad is (may_free may))
+      ask-fails r fault.Reused reported is bad reused used keeps loads opens =
           (refl, λ own. asked_reuses (reused is) (used is) (opens is) own)
-      ask-fails r fault.NotLoaded reported is bad reused used loads opens = absurd (loads is)
-      ask-fails r fault.Memory reported is bad reused used loads opens = (no_restart (deliver index spare) refl, inl refl)
+      ask-fails r fault.NotKept reported is bad reused used keeps loads opens = absurd (keeps is)
+      ask-fails r fault.NotLoaded reported is bad reused used keeps loads opens = absurd (loads is)
+      ask-fails r fault.Memory reported is bad reused used keeps loads opens = (no_restart (deliver index spare) refl, inl refl)
 
     -- ---- to another port
 
@@ -342,7 +342,7 @@ module _ (w v : World) (d : Datagram) (index spare : ℕ) (there : slice_get w.n
       -- it is that of the delivery
       stepped_wanted : wanted_by (slice_get w.net index) w ≡ wanted
       stepped_wanted =
-          wanted_here true (eq-eqb d.target.host server_endpoint.host ours)
+          wanted_here true (eq-eqb d.target.host w.home.host ours)
           ∙ ap (λ (b : Bool). wanted_at b d w) (ne_eqb d.target.port w.server.request other)
 
       -- what the keeper has after the step
@@ -355,12 +355,12 @@ module _ (w v : World) (d : Datagram) (index spare : ℕ) (there : slice_get w.n
 
       -- the same for a keeper that had a log
       now_keeps : (before : List Keeping) → old ≡ Some before →
-          (after : List Keeping) × (new ≡ Some after) × EventKeeps (deliver index spare) h.grant w u before after
+          (after : List Keeping) × (new ≡ Some after) × KeepsOnly (deliver index spare) h.grant w u before after
       now_keeps before is =
           let now =
           reported_after h.grant wanted w.server.maps u.server.maps before new
           (subst (λ (o : Option (List Keeping)). StepKeeps h.grant wanted w.server.maps u.server.maps o new) is h.keeps) in
-          (now.0, now.1, inr (stepped_keeps before now.0 is now.1))
+          (now.0, now.1, (inr (stepped_keeps before now.0 is now.1), tt))
 
       -- a keep is refused only if the file would have changed a collection
       stepped_due : IsDue (deliver index spare) h.grant w
@@ -368,7 +368,7 @@ module _ (w v : World) (d : Datagram) (index spare : ℕ) (there : slice_get w.n
           kept_due h.grant wanted t w.server.maps u.server.maps old new is (sym stepped_wanted ∙ wants) h.keeps
 
       -- what it does to the world and the keeper
-      stepped_makes : Makes (deliver index spare) old new w u
+      pub stepped_makes : Makes (deliver index spare) old new w u
       stepped_makes =
           record {
             grant = h.grant;
@@ -379,7 +379,6 @@ module _ (w v : World) (d : Datagram) (index spare : ℕ) (there : slice_get w.n
             merged = stepped_merged;
             due = stepped_due;
             keeps = now_keeps;
-            stays = λ is. absurd (no_restart (deliver index spare) refl is);
           }
 
       -- the result of the call for a datagram at another port, if memory runs out
@@ -389,6 +388,6 @@ module _ (w v : World) (d : Datagram) (index spare : ℕ) (there : slice_get w.n
       -- the result of the call for a datagram at another port, if it succeeds
       pub transfer-comes : v ≡ u → Comes (Ok tt) (deliver index spare) old new w v
       transfer-comes is = (
-        ap (λ (x : World). x.server.request) (is ∙ h.is) ∙ datagram_same h.grant u.server.maps d.target.port d.source d.bytes w.server,
+        stays-there w v (deliver index spare) h.grant u.server.maps (is ∙ stepped_is),
         λ ready. subst (λ (x : World). Makes (deliver index spare) old new w x) (sym is) stepped_makes,
       )

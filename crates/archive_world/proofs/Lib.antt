@@ -4,4 +4,6 @@ pub mod Firsts
 pub mod Clients
 pub mod Exiting
 pub mod Delivering
+pub mod Refusing
+pub mod Unknowns
 pub mod Replaying

@@ -1,29 +1,29 @@
 -- A list of events that happen one by one: one more of them, and how a replay ends.
-use Rattle.std.specs.Prelude.{◌≡◌, ◌⊎◌, ℕ, ◌+◌, ◌<◌, List, [], ◌∷◌, ◌++◌, take, length, slice_get, Option, Some, Ok, Err}
+use Rattle.std.specs.Prelude.{◌≡◌, ◌⊎◌, ℕ, ◌+◌, ◌<◌, true, List, [], ◌∷◌, ◌++◌, take, length, slice_get, Option, Some, Ok, Err}
 use Rattle.std.specs.Option.{option_map}
 use Rattle.std.proofs.Common.{refl, ap, sym, ◌∙◌, subst, inl, inr, arith}
 use Rattle.std.proofs.Math.ListN.{get_or}
 use Rattle.std.proofs.lemmas.List.{map_push, map_more, take-map, length-map}
 use Rattle.std.proofs.lemmas.Option.{slice_get-map, slice_get-get_or}
-use Rattle.tws_file.specs.declared.«ruleset».Ruleset.TheVariants.{Lynx, Ms}
 use Rattle.archive_table.specs.Keeper.{Keeping}
 use Rattle.archive_world.specs.declared.event.Event as events
 use Rattle.archive_world.specs.declared.event_fault.EventFault.{EventFault}
 use Rattle.archive_world.specs.declared.event_fault.EventFault.TheVariants as fault
 use Rattle.archive_world.specs.declared.world_fault.WorldFault.{WorldFault}
 use Rattle.archive_world.specs.declared.world_fault.WorldFault.TheVariants as world
-use Rattle.archive_model.specs.World.{Event, restart, WorldStep, World, start, happens, run_from, run, HasMerged, MayHappen}
+use Rattle.archive_model.specs.World.{Event, begin, deliver, client_times_out, server_times_out, stray, restart, unknown_keep, WorldStep, World, RunFrom, empty_origin, server_endpoint, start, happens, run_from, run, HasMerged, MayHappen}
 use Rattle.archive_theorem.specs.Headline.{HasOwnPorts, Headline}
-use Rattle.archive_model.specs.Restarts.{EventKeeps, RunKeeps}
+use Rattle.archive_model.specs.Restarts.{RunKeeps}
 use Rattle.archive_world.specs.View.{event_of, events_of}
 use Rattle.archive_world.specs.Outcomes.{Outcome, outcome_of}
-use Rattle.archive_world.specs.Replays.{HaveKept, IsDue, AllDue, HasHappened, Makes, IsReady, HasRun, IsBadAt, IsReusedAt, IsNotLoadedAt, HasStopped}
-use Rattle.archive_world.specs.Exits.{KeeperHas, MakesKept, Comes, world_fault_of, ReplayEnds}
-use Rattle.archive_theorem.proofs.Collecting.{best-collected, start-best, run_from-best}
+use Rattle.archive_world.specs.Replays.{KeepsOnly, HaveKept, IsDue, AllDue, HasHappened, Makes, starts_again, IsReady, HasRun, IsBadAt, IsReusedAt, IsNotKeptAt, IsNotLoadedAt, HasStopped}
+use Rattle.archive_world.specs.Exits.{KeeperHas, MakesKept, LoadsNone, Comes, world_fault_of, ReplayEnds}
+use Rattle.archive_theorem.proofs.Collecting.{last-best}
 use Rattle.archive_theorem.proofs.Concluding.{run-headline}
 use Rattle.archive_theorem.proofs.Happening.{run-append, may-append}
 use Rattle.archive_model.proofs.Places.{Has-contains}
-use Rattle.archive_theorem.proofs.Persisting.{own-ruleset, run-kept}
+use Rattle.archive_theorem.proofs.Persisting.{has-kept}
+use Rattle.archive_theorem.proofs.Loading.{start-kept}
 use Rattle.archive_theorem.proofs.Reusing.{start-own}
 use Rattle.archive_theorem.proofs.Tracing.{merged_append}
 
@@ -39,16 +39,13 @@ keeps_append : (xs ys : List WorldStep) (w : World) (before middle last : List K
     HaveKept ys (run_from xs w) middle last → HaveKept (xs ++ ys) w before last
 keeps_append [] ys w before middle last first rest = subst (λ (l : List Keeping). HaveKept ys w l last) first rest
 keeps_append (x ∷ xs) ys w before middle last first rest =
-    (first.0, first.1, first.2, keeps_append xs ys (happens x w) first.0 middle last first.3 rest)
+    (first.0, first.1, keeps_append xs ys (happens x w) first.0 middle last first.2 rest)
 
 -- what it has by a replay is what it has by the run
 run_keeps : (xs : List WorldStep) (w : World) (before last : List Keeping) → HaveKept xs w before last → RunKeeps xs w before last
 run_keeps [] w before last keeps = keeps
 run_keeps (x ∷ xs) w before last keeps =
-    (keeps.0, keeps.1, run_keeps xs (happens x w) keeps.0 last keeps.3)
-
-some_same : (x y : List Keeping) → Some x ≡ Some y → x ≡ y
-some_same x y is = cc
+    (keeps.0, keeps.1.0, run_keeps xs (happens x w) keeps.0 last keeps.2)
 
 -- ---- what has happened
 
@@ -60,7 +57,7 @@ happened-start reported w is =
       events_are = refl;
       is = is;
       may = tt;
-      own = subst HasOwnPorts (sym is) start-own;
+      own = subst HasOwnPorts (sym is) (start-own (empty_origin server_endpoint));
       merged = tt;
       due = tt;
       keeps = λ before reports. (before, reports, refl);
@@ -70,22 +67,21 @@ happened-start reported w is =
 happened_kept : (events : List Event) (reported now : Option (List Keeping)) (w : World) → reported ≡ Some [] →
     HasHappened events reported now w → KeeperHas now w
 happened_kept events reported now w none h =
-    let best = run_from-best h.steps start h.merged start-best in
+    let o = empty_origin server_endpoint in
+    let r : RunFrom o = record { steps = h.steps; merged = h.merged } in
     let has = h.keeps [] none in
     let there : KeeperHas now (run h.steps) = record {
       log = has.0;
       reports = has.1;
-      kept = (run-kept h.steps has.0 h.merged (run_keeps h.steps start [] has.0 has.2)).0;
-      rules = own-ruleset _ _ best;
-      lynx = best-collected Lynx _ (run h.steps).server.maps.lynx best.lynx;
-      ms = best-collected Ms _ (run h.steps).server.maps.ms best.ms;
+      kept = has-kept o r [] has.0 (run_keeps h.steps start [] has.0 has.2) start-kept;
+      best = last-best o r;
     } in
     subst (KeeperHas now) (sym h.is) there
 
 -- the headline holds for what has happened
 happened_headline : (events : List Event) (reported now : Option (List Keeping)) (w : World) → HasHappened events reported now w → Headline w
 happened_headline events reported now w h =
-    subst Headline (sym h.is) (run-headline h.steps (subst HasOwnPorts h.is h.own) h.merged)
+    subst Headline (sym h.is) (run-headline server_endpoint (record { steps = h.steps; merged = h.merged }) (subst HasOwnPorts h.is h.own))
 
 -- one more
 module _ (events : List Event) (e : Event) (reported now after : Option (List Keeping)) (w v : World)
@@ -103,18 +99,17 @@ module _ (events : List Event) (e : Event) (reported now after : Option (List Ke
   run_more = m.is ∙ ap (λ (x : World). happens step x) h.is ∙ sym (run-append h.steps (step ∷ []) start)
 
   -- what the keeper has after it
-  keeps_last : (first last : List Keeping) → EventKeeps e m.grant w v first last → EventKeeps e m.grant (run h.steps) (happens step (run h.steps)) first last
+  keeps_last : (first last : List Keeping) → KeepsOnly e m.grant w v first last → KeepsOnly e m.grant (run h.steps) (happens step (run h.steps)) first last
   keeps_last first last keeps =
-      subst (λ (x : World). EventKeeps e m.grant x (happens step x) first last) h.is
-      (subst (λ (y : World). EventKeeps e m.grant w y first last) m.is keeps)
+      subst (λ (x : World). KeepsOnly e m.grant x (happens step x) first last) h.is
+      (subst (λ (y : World). KeepsOnly e m.grant w y first last) m.is keeps)
 
   -- and after all of them
   keeps_more : (before : List Keeping) → reported ≡ Some before → (log : List Keeping) × (after ≡ Some log) × HaveKept steps start before log
   keeps_more before reports =
       let has = h.keeps before reports in
       let then = m.keeps has.0 has.1 in
-      let stays : e ≡ restart → then.0 ≡ has.0 = λ is. some_same then.0 has.0 (sym then.1 ∙ m.stays is ∙ has.1) in
-      (then.0, then.1, keeps_append h.steps (step ∷ []) start before has.0 then.0 has.2 (then.0, keeps_last has.0 then.0 then.2, stays, refl))
+      (then.0, then.1, keeps_append h.steps (step ∷ []) start before has.0 then.0 has.2 (then.0, keeps_last has.0 then.0 then.2, refl))
 
   -- so one more event has happened
   happened_more : HasHappened (events ++ e ∷ []) reported after v
@@ -155,9 +150,8 @@ module _ {A : Type 0} (es : List (events.Event A)) (i : ℕ) (x : events.Event A
 
   module _ (reported now after : Option (List Keeping)) (w v : World) (ready : IsReady reported (events_of es))
       (so_far : HasHappened (events_of (take i es)) reported now w) where
-    none_reported : e ≡ restart → reported ≡ Some []
-    none_reported is =
-        ready (Has-contains (events_of es) restart (record { position = i; is = there_is ∙ ap (λ (x : Event). Some x) is }))
+    none_reported : starts_again e ≡ true → reported ≡ Some []
+    none_reported starts = ready e (Has-contains (events_of es) e (record { position = i; is = there_is })) starts
 
     -- the event was made
     made_more : (u : World) → MakesKept e now after w u → HasHappened (events_of (take (i + 1) es)) reported after u
@@ -192,6 +186,43 @@ module _ {A : Type 0} (es : List (events.Event A)) (i : ℕ) (x : events.Event A
           happened = first_are (i + 1) reported after made.0 (made_more made.0 made.1);
         }
 
+    -- the keeper has not kept what is to be found
+    unkept_at : (index : ℕ) → e ≡ unknown_keep index true → (u : World) → Makes (deliver index 0) now after w u → IsNotKeptAt (events_of es) reported after i
+    unkept_at index is u makes =
+        record {
+          index = index;
+          there = there_is ∙ ap (λ (x : Event). Some x) is;
+          world = u;
+          happened = subst (λ (l : List Event). HasHappened (l ++ deliver index 0 ∷ []) reported after u) (sym (take-map event_of i es))
+              (happened_more (events_of (take i es)) (deliver index 0) reported now after w u so_far makes);
+        }
+
+    -- the server could not load
+    unloaded_at : (f : Event) → e ≡ f → LoadsNone f now after w → IsNotLoadedAt (events_of es) reported after i
+    unloaded_at (begin x operation) is none = absurd none
+    unloaded_at (deliver index spare) is none = absurd none
+    unloaded_at (client_times_out x) is none = absurd none
+    unloaded_at (server_times_out port) is none = absurd none
+    unloaded_at (stray d) is none = absurd none
+    unloaded_at restart is same =
+        record {
+          event = restart;
+          there = there_is ∙ ap (λ (x : Event). Some x) is;
+          count = i;
+          reflected = refl;
+          world = w;
+          happened = so_before same;
+        }
+    unloaded_at (unknown_keep index found) is made =
+        record {
+          event = unknown_keep index found;
+          there = there_is ∙ ap (λ (x : Event). Some x) is;
+          count = i + 1;
+          reflected = refl;
+          world = made.0;
+          happened = first_are (i + 1) reported after made.0 (made_more made.0 (subst (λ (x : Event). MakesKept x now after w made.0) (sym is) made.1));
+        }
+
     -- its call failed
     fails_at : (f : EventFault) → Comes (Err f) e now after w v → ReplayEnds (Err (world_fault_of f i)) (events_of es) reported after v
     fails_at fault.Bad comes =
@@ -210,12 +241,8 @@ module _ {A : Type 0} (es : List (events.Event A)) (i : ℕ) (x : events.Event A
           happened = so_before comes.0;
           reuses = comes.1 so_far.own;
         }
-    fails_at fault.NotLoaded comes =
-        record {
-          there = there_is ∙ ap (λ (x : Event). Some x) comes.1;
-          world = w;
-          happened = so_before comes.0;
-        }
+    fails_at fault.NotKept comes = unkept_at comes.0 comes.1 comes.2.0 comes.2.1
+    fails_at fault.NotLoaded comes = unloaded_at e refl comes
     fails_at fault.Memory comes = stopped_by comes.1
 
 -- ---- a loop over a list
@@ -264,7 +291,11 @@ module _ (events : List Event) (reported now : Option (List Keeping)) (v : World
     pub reused-by : (i : ℕ) → f ≡ world.PortReused i → IsReady reported events → IsReusedAt events reported now i
     reused-by i is ready = ends_by (world.PortReused i) is ready
 
-    -- a restart could not load
+    -- the keeper has not kept what is to be found
+    pub not_kept-by : (i : ℕ) → f ≡ world.NotKept i → IsReady reported events → IsNotKeptAt events reported now i
+    not_kept-by i is ready = ends_by (world.NotKept i) is ready
+
+    -- a start could not load
     pub not_loaded-by : (i : ℕ) → f ≡ world.NotLoaded i → IsReady reported events → IsNotLoadedAt events reported now i
     not_loaded-by i is ready = ends_by (world.NotLoaded i) is ready
 

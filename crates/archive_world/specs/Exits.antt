@@ -1,42 +1,58 @@
 -- What the functions inside a replay guarantee, by their results.
-use Rattle.std.specs.Prelude.{◌≡◌, ◌≢◌, ◌⊎◌, ℕ, List, Option, Some, Result, Ok, Err}
-use Rattle.tws_best.specs.Best.{IsCollected}
+use Rattle.std.specs.Prelude.{◌≡◌, ◌≢◌, ◌⊎◌, ℕ, true, List, Option, Some, Result, Ok, Err}
+use Rattle.archive_table.specs.Table.{all}
 use Rattle.archive_table.specs.Keeper.{Keeping}
 use Rattle.archive_world.specs.declared.event_fault.EventFault.{EventFault}
-use Rattle.archive_world.specs.declared.event_fault.EventFault.TheVariants.{Bad, Reused, NotLoaded, Memory}
+use Rattle.archive_world.specs.declared.event_fault.EventFault.TheVariants.{Bad, Reused, NotKept, NotLoaded, Memory}
 use Rattle.archive_world.specs.declared.world_fault.WorldFault.{WorldFault}
 use Rattle.archive_world.specs.declared.world_fault.WorldFault.TheVariants as world
-use Rattle.archive_model.specs.World.{Event, restart, World, MayHappen}
+use Rattle.archive_model.specs.World.{Event, begin, deliver, client_times_out, server_times_out, stray, restart, unknown_keep, World, MayHappen}
 use Rattle.archive_theorem.specs.Headline.{HasOwnPorts}
-use Rattle.archive_model.specs.Restarts.{HasKept, HaveOwnRuleset}
-use Rattle.archive_world.specs.Replays.{HasHappened, Makes, Reuses, IsBadAt, IsReusedAt, IsNotLoadedAt, HasStopped}
+use Rattle.archive_model.specs.Restarts.{HasKept}
+use Rattle.archive_theorem.proofs.Invariant.{AreBest}
+use Rattle.archive_world.specs.Replays.{HasHappened, IsDue, Makes, Reuses, starts_again, IsBadAt, IsReusedAt, IsNotKeptAt, IsNotLoadedAt, HasStopped}
 
 -- the keeper has a log, and what it has is what the server has
 pub record KeeperHas (reported : Option (List Keeping)) (w : World) : Type 0 where
   pub log : List Keeping
   pub reports : reported ≡ Some log
   pub kept : HasKept log w.server.maps
-  pub rules : HaveOwnRuleset w.server.maps
-  pub lynx : IsCollected w.server.maps.lynx
-  pub ms : IsCollected w.server.maps.ms
+  pub best : AreBest w.taken w.server.maps
 
--- what an event does; for a restart, if the keeper has what the server has
+-- what an event does; if the server starts again, for a keeper that has what the server has
 abbrev pub MakesKept : Event → (reported now : Option (List Keeping)) → (w v : World) → Type 0
-MakesKept e reported now w v = (e ≡ restart → KeeperHas reported w) → Makes e reported now w v
+MakesKept e reported now w v = (starts_again e ≡ true → KeeperHas reported w) → Makes e reported now w v
+
+-- the server is where it was
+abbrev pub StaysThere : (w v : World) → Type 0
+StaysThere w v = (v.home ≡ w.home) × (v.server.request ≡ w.server.request)
+
+-- the server cannot load: a keep was made before that
+abbrev pub LoadsNone : Event → (reported now : Option (List Keeping)) → World → Type 0
+LoadsNone (begin e operation) reported now w = ⊥
+LoadsNone (deliver index spare) reported now w = ⊥
+LoadsNone (client_times_out e) reported now w = ⊥
+LoadsNone (server_times_out port) reported now w = ⊥
+LoadsNone (stray d) reported now w = ⊥
+LoadsNone restart reported now w = now ≡ reported
+LoadsNone (unknown_keep index found) reported now w = (u : World) × MakesKept (unknown_keep index found) reported now w u
 
 -- By the result of a call for an event. If it runs out of memory, the event was not begun, or the server made its step. A
 -- restart never runs out of memory by itself: the load fails.
 abbrev pub Comes : Result (Unit {0}) EventFault → Event → (reported now : Option (List Keeping)) → (w v : World) → Type 0
-Comes (Ok done) e reported now w v = (v.server.request ≡ w.server.request) × MakesKept e reported now w v
-Comes (Err Bad) e reported now w v = (now ≡ reported) × (MayHappen e w → ⊥)
+Comes (Ok done) e reported now w v = StaysThere w v × MakesKept e reported now w v
+Comes (Err Bad) e reported now w v = (now ≡ reported) × (MayHappen e w → IsDue e all w → ⊥)
 Comes (Err Reused) e reported now w v = (now ≡ reported) × (HasOwnPorts w → Reuses e w)
-Comes (Err NotLoaded) e reported now w v = (now ≡ reported) × (e ≡ restart)
+Comes (Err NotKept) e reported now w v =
+    (index : ℕ) × (e ≡ unknown_keep index true) × ((u : World) × Makes (deliver index 0) reported now w u)
+Comes (Err NotLoaded) e reported now w v = LoadsNone e reported now w
 Comes (Err Memory) e reported now w v = (e ≢ restart) × ((now ≡ reported) ⊎ ((u : World) × MakesKept e reported now w u))
 
 -- the fault of the event at a place
 abbrev pub world_fault_of : EventFault → (index : ℕ) → WorldFault
 world_fault_of Bad index = world.BadEvent index
 world_fault_of Reused index = world.PortReused index
+world_fault_of NotKept index = world.NotKept index
 world_fault_of NotLoaded index = world.NotLoaded index
 world_fault_of Memory index = world.Memory
 
@@ -45,5 +61,6 @@ abbrev pub ReplayEnds : Result (Unit {0}) WorldFault → List Event → (reporte
 ReplayEnds (Ok done) events reported now v = HasHappened events reported now v
 ReplayEnds (Err (world.BadEvent i)) events reported now v = IsBadAt events reported now i
 ReplayEnds (Err (world.PortReused i)) events reported now v = IsReusedAt events reported now i
+ReplayEnds (Err (world.NotKept i)) events reported now v = IsNotKeptAt events reported now i
 ReplayEnds (Err (world.NotLoaded i)) events reported now v = IsNotLoadedAt events reported now i
 ReplayEnds (Err world.Memory) events reported now v = HasStopped events reported now

@@ -12,7 +12,7 @@ use Rattle.archive_world.specs.declared.running.Running.TheVariants.{Put, Get}
 use Rattle.archive_world.specs.declared.begun.Begun.TheInside as beginning
 use Rattle.archive_world.specs.declared.machine.Machine.TheInside as machines
 use Rattle.archive_world.specs.View.{operation_of}
-use Rattle.archive_model.specs.World.{World, Begun, Datagram, after_transfer, net_with, sent_with, got_with, newly_sent, newly_got}
+use Rattle.archive_model.specs.World.{World, Begun, Datagram, server_endpoint, after_transfer, net_with, sent_with, got_with, newly_sent, newly_got}
 use Rattle.archive_table.specs.Table.{Grant, all, Merges, table_datagram, is_same}
 use Rattle.archive_table.specs.Keeper.{Keeping, StepKeeps}
 
@@ -56,9 +56,11 @@ world_of m =
       server = m.table;
       clients = m.clients.items;
       past = record {
+        home = server_endpoint;
         net = m.net.items;
         begun = m.begun.items;
         taken = m.taken.items;
+        recovered = m.recovered.items;
         sent = m.sent.items;
         got = m.got.items;
         opened = m.opened.items;

@@ -9,6 +9,8 @@ use Rattle.archive_model.specs.World.{Datagram, Opening, Got, World}
 pub record Outcome : Type 0 where
   -- the files that the server has taken, each with its peer
   pub taken : List Taken
+  -- those of them whose peers were told that they were not kept
+  pub recovered : List Taken
   -- the clients that count their files as sent
   pub sent : List Endpoint
   -- the files that clients have fetched whole
@@ -25,6 +27,7 @@ abbrev pub outcome_of : World → Outcome
 outcome_of w =
     record {
       taken = w.taken;
+      recovered = w.recovered;
       sent = w.sent;
       got = w.got;
       opened = w.opened;

@@ -1,27 +1,50 @@
 -- What a replay of events guarantees: that all of them have happened, or which one is the first at fault, and why.
-use Rattle.std.specs.Prelude.{◌≡◌, ◌≢◌, ℕ, ◌≤◌, List, [], ◌∷◌, map, take, length, slice_get, Contains, Option, Some}
-use Rattle.archive_table.specs.Table.{Grant, unkept, Maps, Taken, IsMerged}
-use Rattle.archive_table.specs.Keeper.{Keeping}
-use Rattle.archive_model.specs.World.{Event, begin, deliver, client_times_out, server_times_out, stray, restart, WorldStep, World, start, event_happens, happens, run, HasMerged, AllMerged, MayHappen, AllMayHappen}
+use Rattle.std.specs.Prelude.{◌≡◌, ◌≢◌, ℕ, ◌+◌, ◌≤◌, Bool, true, false, List, [], ◌∷◌, ◌++◌, map, take, length, slice_get, Contains, Option, Some}
+use Rattle.archive_table.specs.Table.{Grant, all, unkept, Maps, Taken, IsMerged}
+use Rattle.archive_table.specs.Keeper.{Keeping, KeepsMaps}
+use Rattle.archive_model.specs.World.{Event, begin, deliver, client_times_out, server_times_out, stray, restart, unknown_keep, WorldStep, World, start, event_happens, happens, run, wanted_by, HasMerged, AllMerged, MayHappen, AllMayHappen}
 use Rattle.archive_theorem.specs.Headline.{HasOwnPorts, Headline}
-use Rattle.archive_model.specs.Restarts.{EventKeeps, wanted_by}
+use Rattle.archive_model.specs.Restarts.{EventKeeps}
 use Rattle.archive_world.specs.Outcomes.{Outcome, outcome_of}
 
--- What the keeper has after these steps, if it has `before` at first. A restart does not change its list.
+-- Of the lists that a start loads as the same collections, the keeper has this one: a restart does not change its list, and a
+-- keep whose outcome is unknown adds only the collection that the next start finds.
+abbrev pub AddsOnly : Event → (w v : World) → (before after : List Keeping) → Type 0
+AddsOnly (begin e operation) w v before after = Unit {0}
+AddsOnly (deliver index spare) w v before after = Unit {0}
+AddsOnly (client_times_out e) w v before after = Unit {0}
+AddsOnly (server_times_out port) w v before after = Unit {0}
+AddsOnly (stray d) w v before after = Unit {0}
+AddsOnly restart w v before after = after ≡ before
+AddsOnly (unknown_keep index found) w v before after = KeepsMaps w.server.maps v.server.maps (Some before) (Some after)
+
+-- what the keeper has after an event
+abbrev pub KeepsOnly : Event → Grant → (w v : World) → (before after : List Keeping) → Type 0
+KeepsOnly e grant w v before after = EventKeeps e grant w v before after × AddsOnly e w v before after
+
+-- what the keeper has after these steps, if it has `before` at first
 abbrev pub HaveKept : List WorldStep → World → (before last : List Keeping) → Type 0
 HaveKept [] w before last = last ≡ before
 HaveKept (s ∷ steps) w before last =
-    (after : List Keeping) × EventKeeps s.event s.grant w (happens s w) before after × (s.event ≡ restart → after ≡ before) × HaveKept steps (happens s w) after last
+    (after : List Keeping) × KeepsOnly s.event s.grant w (happens s w) before after × HaveKept steps (happens s w) after last
 
--- A keep is refused only if the file would have changed a collection.
+-- the file would change a collection
+abbrev pub Changes : Taken → Maps → Type 0
+Changes t old = (maps : Maps) × IsMerged t.file old maps × (maps ≢ old)
+
+-- what a datagram completes, if anything, would change a collection
+abbrev pub WouldChange : (index : ℕ) → World → Type 0
+WouldChange index w = (t : Taken) → wanted_by (slice_get w.net index) w ≡ Some t → Changes t w.server.maps
+
+-- A keep is refused, or its outcome unknown, only if the file would have changed a collection.
 abbrev pub IsDue : Event → Grant → World → Type 0
 IsDue (begin e operation) grant w = Unit {0}
-IsDue (deliver index spare) grant w =
-    grant ≡ unkept → (t : Taken) → wanted_by (slice_get w.net index) w ≡ Some t → (maps : Maps) × IsMerged t.file w.server.maps maps × (maps ≢ w.server.maps)
+IsDue (deliver index spare) grant w = grant ≡ unkept → WouldChange index w
 IsDue (client_times_out e) grant w = Unit {0}
 IsDue (server_times_out port) grant w = Unit {0}
 IsDue (stray d) grant w = Unit {0}
 IsDue restart grant w = Unit {0}
+IsDue (unknown_keep index found) grant w = WouldChange index w
 
 abbrev pub AllDue : List WorldStep → World → Type 0
 AllDue [] w = Unit {0}
@@ -48,15 +71,23 @@ pub record Makes (e : Event) (reported now : Option (List Keeping)) (w v : World
   pub own : HasOwnPorts w → HasOwnPorts v
   pub merged : HasMerged (record { event = e; grant = grant; maps = maps }) w
   pub due : IsDue e grant w
-  pub keeps : (before : List Keeping) → reported ≡ Some before → (after : List Keeping) × (now ≡ Some after) × EventKeeps e grant w v before after
-  -- a restart does not change the list
-  pub stays : e ≡ restart → now ≡ reported
+  pub keeps : (before : List Keeping) → reported ≡ Some before → (after : List Keeping) × (now ≡ Some after) × KeepsOnly e grant w v before after
 
 -- ---- the end of a replay
 
--- If the server restarts, the keeper has a log, which is empty at first. Otherwise any keeper will do.
+-- the server starts again at this event
+abbrev pub starts_again : Event → Bool
+starts_again (begin e operation) = false
+starts_again (deliver index spare) = false
+starts_again (client_times_out e) = false
+starts_again (server_times_out port) = false
+starts_again (stray d) = false
+starts_again restart = true
+starts_again (unknown_keep index found) = true
+
+-- If the server starts again, the keeper has a log, which is empty at first. Otherwise any keeper will do.
 abbrev pub IsReady : (reported : Option (List Keeping)) → List Event → Type 0
-IsReady reported events = Contains events restart → reported ≡ Some []
+IsReady reported events = (e : Event) → Contains events e → starts_again e ≡ true → reported ≡ Some []
 
 -- All events have happened, the outcome is that of the world after them, and the headline holds for it.
 pub record HasRun (events : List Event) (reported now : Option (List Keeping)) (outcome : Outcome) : Type 0 where
@@ -65,13 +96,14 @@ pub record HasRun (events : List Event) (reported now : Option (List Keeping)) (
   pub is : outcome ≡ outcome_of world
   pub headline : Headline world
 
--- The events before this place have happened, and the one there may not happen after them.
+-- The events before this place have happened, and the one there may not happen after them, or is a keep with an unknown outcome
+-- of a file that changes no collection.
 pub record IsBadAt (events : List Event) (reported now : Option (List Keeping)) (i : ℕ) : Type 0 where
   pub event : Event
   pub there : slice_get events i ≡ Some event
   pub world : World
   pub happened : HasHappened (take i events) reported now world
-  pub bad : MayHappen event world → ⊥
+  pub bad : MayHappen event world → IsDue event all world → ⊥
 
 -- The event may happen, but after it, with what it was granted, a port would have been used twice.
 pub record Reuses (e : Event) (w : World) : Type 0 where
@@ -89,11 +121,32 @@ pub record IsReusedAt (events : List Event) (reported now : Option (List Keeping
   pub happened : HasHappened (take i events) reported now world
   pub reuses : Reuses event world
 
--- The events before this place have happened, and the one there is a restart.
-pub record IsNotLoadedAt (events : List Event) (reported now : Option (List Keeping)) (i : ℕ) : Type 0 where
-  pub there : slice_get events i ≡ Some restart
+-- The events before this place have happened, and the one there is a keep that the next start is to find. Instead its
+-- datagram was delivered, and the keeper did not keep the collection.
+pub record IsNotKeptAt (events : List Event) (reported now : Option (List Keeping)) (i : ℕ) : Type 0 where
+  pub index : ℕ
+  pub there : slice_get events i ≡ Some (unknown_keep index true)
   pub world : World
-  pub happened : HasHappened (take i events) reported now world
+  pub happened : HasHappened (take i events ++ deliver index 0 ∷ []) reported now world
+
+-- How many events the keeper's list reflects if the server cannot load at this one: a keep comes before the start.
+abbrev pub IsReflected : Event → (i count : ℕ) → Type 0
+IsReflected (begin e operation) i count = ⊥
+IsReflected (deliver index spare) i count = ⊥
+IsReflected (client_times_out e) i count = ⊥
+IsReflected (server_times_out port) i count = ⊥
+IsReflected (stray d) i count = ⊥
+IsReflected restart i count = count ≡ i
+IsReflected (unknown_keep index found) i count = count ≡ i + 1
+
+-- The events before this place have happened, and at the one there the server starts again.
+pub record IsNotLoadedAt (events : List Event) (reported now : Option (List Keeping)) (i : ℕ) : Type 0 where
+  pub event : Event
+  pub there : slice_get events i ≡ Some event
+  pub count : ℕ
+  pub reflected : IsReflected event i count
+  pub world : World
+  pub happened : HasHappened (take count events) reported now world
 
 -- The first `count` events have happened, and the keeper has what they have kept.
 pub record HasStopped (events : List Event) (reported now : Option (List Keeping)) : Type 0 where

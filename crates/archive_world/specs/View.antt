@@ -12,8 +12,8 @@ use Rattle.archive_world.specs.declared.asked.Asked.TheVariants as asks
 use Rattle.archive_world.specs.declared.op_kind.OpKind as kinds
 use Rattle.archive_world.specs.declared.op_kind.OpKind.TheVariants.{Put, Get}
 use Rattle.archive_world.specs.declared.event.Event as events
-use Rattle.archive_world.specs.declared.event.Event.TheVariants.{Begin, Deliver, ClientTimeout, ServerTimeout, Stray, Restart}
-use Rattle.archive_model.specs.World.{Datagram, Asked, to_write, to_read, Opening, Got, Event, begin, deliver, client_times_out, server_times_out, stray, restart}
+use Rattle.archive_world.specs.declared.event.Event.TheVariants.{Begin, Deliver, ClientTimeout, ServerTimeout, Stray, Restart, UnknownKeep}
+use Rattle.archive_model.specs.World.{Datagram, Asked, to_write, to_read, Opening, Got, Event, begin, deliver, client_times_out, server_times_out, stray, restart, unknown_keep}
 use Rattle.archive_world.specs.Outcomes.{Outcome}
 
 abbrev pub datagram_of : {A : Type 0} → datagrams.Inside A → Datagram
@@ -36,6 +36,7 @@ abbrev pub outcome_as : {A : Type 0} → outcomes.Inside A → Outcome
 outcome_as o =
     record {
       taken = o.taken.items;
+      recovered = o.recovered.items;
       sent = o.sent.items;
       got = o.got.items;
       opened = o.opened.items;
@@ -55,6 +56,7 @@ event_of (ClientTimeout client) = client_times_out client
 event_of (ServerTimeout port) = server_times_out port
 event_of (Stray d) = stray d
 event_of Restart = restart
+event_of (UnknownKeep index found) = unknown_keep index found
 
 abbrev pub events_of : {A : Type 0} → List (events.Event A) → List Event
 events_of es = map event_of es

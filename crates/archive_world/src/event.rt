@@ -32,4 +32,12 @@ pub enum Event<A: Allocator = Global> {
     Stray(Datagram<A>),
     /// The server restarts, with the collections that its keeper has.
     Restart,
+    /// A datagram completes a file, and it is not known whether the collection that it makes is kept: the server answers
+    /// that it is not, and restarts.
+    UnknownKeep {
+        /// Which datagram, counted from 0 over all that were ever sent.
+        index: usize,
+        /// Whether the restart finds the collection.
+        found: bool,
+    },
 }

@@ -49,12 +49,14 @@ pub(crate) fn begin<A: Allocator + Copy>(
     machine: &mut Machine<A>,
     op: &Op<A>,
 ) -> Result<(), EventFault>
+    requires home { machine.old.home ≡ server_endpoint }
     ensures made { OnOk result (machine.new ≡ event_happens (begin op.now.client (operation_of op.now.kind)) all empty_maps machine.old) }
     ensures may { OnOk result (MayHappen (begin op.now.client (operation_of op.now.kind)) machine.old) }
     ensures own { OnOk result (IsUnused op.now.client machine.old) }
     ensures bad { result ≡ Err EventFault.Bad → MayHappen (begin op.now.client (operation_of op.now.kind)) machine.old → ⊥ }
     ensures reused { result ≡ Err EventFault.Reused → MayHappen (begin op.now.client (operation_of op.now.kind)) machine.old }
     ensures used { result ≡ Err EventFault.Reused → IsUnused op.now.client machine.old → ⊥ }
+    ensures keeps { result ≢ Err EventFault.NotKept }
     ensures loads { result ≢ Err EventFault.NotLoaded }
 {
     if is_ours(op.client) || is_long(&op.kind) {
@@ -78,10 +80,12 @@ pub(crate) fn stray<A: Allocator + Copy>(
     machine: &mut Machine<A>,
     d: &Datagram<A>,
 ) -> Result<(), EventFault>
+    requires home { machine.old.home ≡ server_endpoint }
     ensures made { OnOk result (machine.new ≡ event_happens (stray d.now) all empty_maps machine.old) }
     ensures may { OnOk result (MayHappen (stray d.now) machine.old) }
     ensures bad { result ≡ Err EventFault.Bad → MayHappen (stray d.now) machine.old → ⊥ }
     ensures own { result ≢ Err EventFault.Reused }
+    ensures keeps { result ≢ Err EventFault.NotKept }
     ensures loads { result ≢ Err EventFault.NotLoaded }
 {
     let from = d.from;
@@ -107,6 +111,7 @@ pub(crate) fn client_timeout<A: Allocator + Copy>(
     ensures may { OnOk result (MayHappen (client_times_out e) machine.old) }
     ensures bad { result ≡ Err EventFault.Bad → MayHappen (client_times_out e) machine.old → ⊥ }
     ensures own { result ≢ Err EventFault.Reused }
+    ensures keeps { result ≢ Err EventFault.NotKept }
     ensures loads { result ≢ Err EventFault.NotLoaded }
 {
     if !machine.has_begun(e) {
@@ -127,6 +132,7 @@ pub(crate) fn server_timeout<A: Allocator + Copy>(
     machine: &mut Machine<A>,
     port: u16,
 ) -> Result<(), EventFault>
+    requires home { machine.old.home ≡ server_endpoint }
     ensures made { OnOk result (machine.new ≡ event_happens (server_times_out port) all empty_maps machine.old) }
     ensures may { IfErr result (λ fault. fault ≡ EventFault.Memory) }
 {
@@ -148,6 +154,7 @@ pub(crate) fn request<A: Allocator + Copy>(
     spare: u16,
     d: &Datagram<A>,
 ) -> Result<bool, EventFault>
+    requires home { machine.old.home ≡ server_endpoint }
     requires request { machine.old.server.request ≡ server_endpoint.port }
     ensures made { IfOk result (λ opened. machine.new ≡ after_request d.now.source spare (asked_of d.now.bytes) (table_request (request_verdict opened) spare d.now.source d.now.bytes machine.old.server) machine.old) }
     ensures free { OnOk result (IsFree spare machine.old) }
@@ -155,6 +162,7 @@ pub(crate) fn request<A: Allocator + Copy>(
     ensures bad { result ≡ Err EventFault.Bad → IsFree spare machine.old → ⊥ }
     ensures reused { result ≡ Err EventFault.Reused → IsFree spare machine.old }
     ensures used { result ≡ Err EventFault.Reused → was_opened d.now.source spare machine.old.opened ≡ true }
+    ensures keeps { result ≢ Err EventFault.NotKept }
     ensures loads { result ≢ Err EventFault.NotLoaded }
     ensures step { IfOk result (λ opened. opened ≡ (table_request (request_verdict opened) spare d.now.source d.now.bytes machine.old.server).step.opened) }
     ensures opens { result ≡ Err EventFault.Reused → (table_request granted spare d.now.source d.now.bytes machine.old.server).step.opened ≡ true }
@@ -187,6 +195,7 @@ pub(crate) fn restart<K: Keeper, A: Allocator + Copy>(
 ) -> Result<(), LoadFault>
     requires request { machine.old.server.request ≡ server_endpoint.port }
     ensures made { OnOk result ((log : List Keeping) → K.calls keeper.old ≡ Some log → HasKept log machine.old.server.maps → IsCollected machine.old.server.maps.lynx → IsCollected machine.old.server.maps.ms → machine.new ≡ restarts machine.old) }
+    ensures home { OnOk result (machine.new.home ≡ machine.old.home) }
     ensures request { OnOk result (machine.new.server.request ≡ machine.old.server.request) }
     ensures calls { K.calls keeper.new ≡ K.calls keeper.old }
     ensures fault { IfErr result (TableFails (K.calls keeper.old)) }

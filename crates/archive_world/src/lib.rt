@@ -19,6 +19,7 @@ mod op;
 mod op_kind;
 mod opening;
 mod outcome;
+mod refusing_keeper;
 mod running;
 mod schedule;
 mod seat;

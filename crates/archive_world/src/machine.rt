@@ -13,6 +13,8 @@ ghost use Rattle.archive_world.specs.Outcomes.{outcome_of};
 ghost use Rattle.archive_theorem.specs.Reuse.{has_strayed, was_opened, is_opening_at};
 ghost use Rattle.tws_best.specs.Best.{collection_text};
 
+mod ending;
+
 use crate::answered::Answered;
 use crate::asked::Asked;
 use crate::begun::Begun;
@@ -43,6 +45,7 @@ pub(crate) struct Machine<A: Allocator + Copy = Global> {
     clients: Vec<Seat<A>, A>,
     begun: Vec<Begun<A>, A>,
     taken: Vec<TakenFile<A>, A>,
+    recovered: Vec<TakenFile<A>, A>,
     sent: Vec<Endpoint, A>,
     got: Vec<GotFile<A>, A>,
     opened: Vec<Opening, A>,
@@ -71,6 +74,7 @@ impl<A: Allocator + Copy> Machine<A> {
             clients: Vec::new(alloc),
             begun: Vec::new(alloc),
             taken: Vec::new(alloc),
+            recovered: Vec::new(alloc),
             sent: Vec::new(alloc),
             got: Vec::new(alloc),
             opened: Vec::new(alloc),
@@ -112,6 +116,7 @@ impl<A: Allocator + Copy> Machine<A> {
 
     // Records what a step of the server returned, for any input other than a request.
     fn add_step(&mut self, step: Step<A>) -> Result<(), AllocError>
+        requires home { self.old.home ≡ server_endpoint }
         ensures { OnOk result (self.new ≡ after_transfer (record { server = self.old.server; step = made step }) self.old) }
     {
         let Step { out, taken, .. } = step;
@@ -125,6 +130,7 @@ impl<A: Allocator + Copy> Machine<A> {
     ///
     /// Out of memory.
     pub(crate) fn server_timeout(&mut self, port: u16) -> Result<(), AllocError>
+        requires home { self.old.home ≡ server_endpoint }
         ensures { OnOk result (self.new ≡ after_transfer (table_timeout port self.old.server) self.old) }
     {
         let step = self.table.on_timeout(port);
@@ -156,6 +162,7 @@ impl<A: Allocator + Copy> Machine<A> {
         keeper: &mut K,
         d: &Datagram<A>,
     ) -> Result<(), AllocError>
+        requires home { self.old.home ≡ server_endpoint }
         ensures { (world : World) × ReceivesAtPort d.now (K.calls keeper.old) (K.calls keeper.new) self.old world × OnOk result (self.new ≡ world) }
     {
         let step = self
@@ -187,6 +194,7 @@ impl<A: Allocator + Copy> Machine<A> {
     ///
     /// Out of memory.
     pub(crate) fn begin(&mut self, op: &Op<A>) -> Result<(), AllocError>
+        requires home { self.old.home ≡ server_endpoint }
         requires short { is_too_long (operation_of op.now.kind) ≡ false }
         ensures { OnOk result (self.new ≡ begins op.now.client (operation_of op.now.kind) self.old) }
     {
@@ -307,6 +315,7 @@ impl<A: Allocator + Copy> Machine<A> {
     ///
     /// Out of memory.
     pub(crate) fn request(&mut self, spare: u16, d: &Datagram<A>) -> Result<bool, AllocError>
+        requires home { self.old.home ≡ server_endpoint }
         requires other { spare ≢ self.old.server.request }
         requires free { transfer_at spare self.old.server ≡ None }
         ensures step { IfOk result (λ opened. opened ≡ (table_request (request_verdict opened) spare d.now.source d.now.bytes self.old.server).step.opened) }
@@ -332,6 +341,7 @@ impl<A: Allocator + Copy> Machine<A> {
         let Machine {
             net,
             taken,
+            recovered,
             sent,
             got,
             opened,
@@ -339,6 +349,7 @@ impl<A: Allocator + Copy> Machine<A> {
         } = self;
         Ok(Outcome {
             taken,
+            recovered,
             sent,
             got,
             opened,

@@ -15,6 +15,8 @@ use tws_file::Bytes;
 pub struct Outcome<A: Allocator = Global> {
     /// The files that the server has taken.
     pub taken: Vec<TakenFile<A>, A>,
+    /// Those of them whose peers were told that they were not kept.
+    pub recovered: Vec<TakenFile<A>, A>,
     /// The clients that count their files as sent.
     pub sent: Vec<Endpoint, A>,
     /// The collections that clients have fetched whole.

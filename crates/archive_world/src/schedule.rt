@@ -3,7 +3,7 @@
 ghost use Rattle.std.specs.Prelude.{◌≡◌, ℕ, Err, IfOk};
 ghost use Rattle.archive_model.specs.World.{start};
 ghost use Rattle.archive_world.specs.View.{events_of};
-ghost use Rattle.archive_world.specs.Replays.{IsReady, HasRun, IsBadAt, IsReusedAt, IsNotLoadedAt, HasStopped};
+ghost use Rattle.archive_world.specs.Replays.{IsReady, HasRun, IsBadAt, IsReusedAt, IsNotKeptAt, IsNotLoadedAt, HasStopped};
 ghost use Rattle.archive_world.specs.Exits.{world_fault_of, ReplayEnds};
 
 use crate::event::Event;
@@ -22,6 +22,7 @@ fn fault_at(fault: EventFault, index: usize) -> WorldFault
     match fault {
         EventFault::Bad => WorldFault::BadEvent(index),
         EventFault::Reused => WorldFault::PortReused(index),
+        EventFault::NotKept => WorldFault::NotKept(index),
         EventFault::NotLoaded => WorldFault::NotLoaded(index),
         EventFault::Memory => WorldFault::Memory,
     }
@@ -52,8 +53,9 @@ fn happen_all<K: Keeper, A: Allocator + Copy>(
 ///
 /// # Errors
 ///
-/// The first event that is not allowed, that reuses a port, or at which the server cannot load its collections; out of
-/// memory. The keeper then has what the earlier steps have kept.
+/// The first event that is not allowed, that reuses a port, of which the keeper has not kept the collection that is to be
+/// found, or at which the server cannot load its collections; out of memory. The keeper then has what the earlier steps
+/// have kept.
 pub fn replay<K: Keeper, A: Allocator + Copy>(
     alloc: A,
     keeper: &mut K,
@@ -62,6 +64,7 @@ pub fn replay<K: Keeper, A: Allocator + Copy>(
     ensures ran { IfOk result (λ outcome. IsReady (K.calls keeper.old) (events_of events.now) → HasRun (events_of events.now) (K.calls keeper.old) (K.calls keeper.new) outcome) }
     ensures bad { (i : ℕ) → result ≡ Err (WorldFault.BadEvent i) → IsReady (K.calls keeper.old) (events_of events.now) → IsBadAt (events_of events.now) (K.calls keeper.old) (K.calls keeper.new) i }
     ensures reused { (i : ℕ) → result ≡ Err (WorldFault.PortReused i) → IsReady (K.calls keeper.old) (events_of events.now) → IsReusedAt (events_of events.now) (K.calls keeper.old) (K.calls keeper.new) i }
+    ensures not_kept { (i : ℕ) → result ≡ Err (WorldFault.NotKept i) → IsReady (K.calls keeper.old) (events_of events.now) → IsNotKeptAt (events_of events.now) (K.calls keeper.old) (K.calls keeper.new) i }
     ensures not_loaded { (i : ℕ) → result ≡ Err (WorldFault.NotLoaded i) → IsReady (K.calls keeper.old) (events_of events.now) → IsNotLoadedAt (events_of events.now) (K.calls keeper.old) (K.calls keeper.new) i }
     ensures memory { result ≡ Err WorldFault.Memory → IsReady (K.calls keeper.old) (events_of events.now) → HasStopped (events_of events.now) (K.calls keeper.old) (K.calls keeper.new) }
 {

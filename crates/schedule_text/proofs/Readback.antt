@@ -1,14 +1,14 @@
 -- Each event is read back from its words, and each list of events from its text.
-use Rattle.std.proofs.Common.{◌≡◌, ℕ, ◌-◌, ◌^◌, ◌<◌, List, [], ◌∷◌, refl, ap, ◌∙◌, arith, rules, Option, Some, decimal, codes}
+use Rattle.std.proofs.Common.{◌≡◌, ℕ, ◌-◌, ◌^◌, ◌<◌, Bool, true, false, List, [], ◌∷◌, refl, ap, ◌∙◌, arith, rules, Option, Some, decimal, codes}
 use Rattle.std.specs.Option.{option_map}
 use Rattle.tftp_packet.specs.declared.endpoint.Endpoint.{Endpoint}
 use Rattle.tws_file.specs.declared.«ruleset».Ruleset.{Ruleset}
 use Rattle.tws_file.specs.declared.«ruleset».Ruleset.TheVariants.{Lynx, Ms}
 use Rattle.tws_file.specs.Words.{ruleset_name}
 use Rattle.archive_client.specs.Client.{put, get}
-use Rattle.archive_model.specs.World.{Event, begin, deliver, client_times_out, server_times_out, stray, restart}
-use Rattle.schedule_text.specs.Words.{number_in, endpoint_at, endpoint_in, ruleset_in}
-use Rattle.schedule_text.specs.Schedule.{event_in, begin_in, deliver_of, stray_in, stray_of, events_by, both, line_events, lines_events, schedule_of}
+use Rattle.archive_model.specs.World.{Event, begin, deliver, client_times_out, server_times_out, stray, restart, unknown_keep}
+use Rattle.schedule_text.specs.Words.{number_in, endpoint_at, endpoint_in, ruleset_in, found_word, found_in}
+use Rattle.schedule_text.specs.Schedule.{event_in, begin_in, deliver_of, stray_in, stray_of, unknown_keep_of, events_by, both, line_events, lines_events, schedule_of}
 use Rattle.schedule_text.specs.Spelling.{FitsEndpoint, Fits, AllFit, bytes_word, event_words, event_text, schedule_text}
 use Rattle.schedule_text.proofs.Plain.{IsWord, AreWords, words_of-spelled, lines_of-spelled}
 use Rattle.schedule_text.proofs.Numerals.{number_in-decimal, decimal_is_word, bytes_are_word, bytes_in-word}
@@ -24,6 +24,10 @@ endpoint_read e fits =
 ruleset_read : (r : Ruleset) → ruleset_in (ruleset_name r) ≡ Some r
 ruleset_read Lynx = refl
 ruleset_read Ms = refl
+
+found_read : (found : Bool) → found_in (found_word found) ≡ Some found
+found_read true = refl
+found_read false = refl
 
 words_read : (e : Event) → Fits e → event_in (event_words e) ≡ Some e
 words_read (begin client (put file)) fits =
@@ -42,10 +46,17 @@ words_read (stray d) fits =
     ∙ ap (λ (t : Option Endpoint). stray_in (Some d.source) t (bytes_word d.bytes)) (endpoint_read d.target fits.1)
     ∙ ap (stray_of d.source d.target) (bytes_in-word d.bytes fits.2)
 words_read restart fits = refl
+words_read (unknown_keep index found) fits =
+    ap (λ (i : Option ℕ). unknown_keep_of i (found_in (found_word found))) (number_in-decimal (2 ^ 64 - 1) index (omega arith) fits)
+    ∙ ap (option_map (unknown_keep index)) (found_read found)
 
 ruleset_is_word : (r : Ruleset) → IsWord (ruleset_name r)
 ruleset_is_word Lynx = search rules
 ruleset_is_word Ms = search rules
+
+found_is_word : (found : Bool) → IsWord (found_word found)
+found_is_word true = search rules
+found_is_word false = search rules
 
 endpoint_is_words : (e : Endpoint) (words : List (List ℕ)) → FitsEndpoint e → AreWords words → AreWords (decimal e.host ∷ decimal e.port ∷ words)
 endpoint_is_words e words fits plain = (decimal_is_word e.host (omega arith), (decimal_is_word e.port (omega arith), plain))
@@ -64,6 +75,7 @@ are_words (stray d) fits = (
       (endpoint_is_words d.target (bytes_word d.bytes ∷ []) fits.1 (bytes_are_word d.bytes, tt)),
 )
 are_words restart fits = (search rules, tt)
+are_words (unknown_keep index found) fits = (search rules, (decimal_is_word index fits, (found_is_word found, tt)))
 
 -- words that name an event are not none
 events_by-named : (words : List (List ℕ)) (e : Event) → event_in words ≡ Some e → events_by words ≡ Some (e ∷ [])

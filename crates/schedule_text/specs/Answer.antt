@@ -9,9 +9,9 @@ use Rattle.archive_table.specs.Keeper.{Keeping}
 use Rattle.archive_model.specs.World.{Event, Datagram, Asked, to_write, to_read, Opening, Got}
 use Rattle.archive_world.specs.Outcomes.{Outcome}
 use Rattle.archive_world.specs.declared.world_fault.WorldFault.{WorldFault}
-use Rattle.archive_world.specs.declared.world_fault.WorldFault.TheVariants.{BadEvent, PortReused, NotLoaded, Memory}
+use Rattle.archive_world.specs.declared.world_fault.WorldFault.TheVariants.{BadEvent, PortReused, NotKept, NotLoaded, Memory}
 use Rattle.schedule_text.specs.Schedule.{schedule_of}
-use Rattle.archive_world.specs.Replays.{HasRun, IsBadAt, IsReusedAt, IsNotLoadedAt, HasStopped}
+use Rattle.archive_world.specs.Replays.{HasRun, IsBadAt, IsReusedAt, IsNotKeptAt, IsNotLoadedAt, HasStopped}
 
 -- ---- lines
 
@@ -28,6 +28,9 @@ file_line name at bytes = name ++ codes " " ++ decimal at.host ++ codes " " ++ d
 
 abbrev pub taken_line : Taken → List ℕ
 taken_line taken = file_line (codes "taken") taken.peer taken.file
+
+abbrev pub recovered_line : Taken → List ℕ
+recovered_line taken = file_line (codes "recovered") taken.peer taken.file
 
 abbrev pub sent_line : Endpoint → List ℕ
 sent_line client = codes "sent " ++ decimal client.host ++ codes " " ++ decimal client.port ++ 10 ∷ []
@@ -53,12 +56,13 @@ datagram_line d =
 
 abbrev pub outcome_text : Outcome → List ℕ
 outcome_text o =
-    flat_map taken_line o.taken ++ flat_map sent_line o.sent ++ flat_map got_line o.got ++ flat_map opened_line o.opened
-    ++ text_line (codes "lynx") o.lynx ++ text_line (codes "ms") o.ms ++ flat_map datagram_line o.datagrams
+    flat_map taken_line o.taken ++ flat_map recovered_line o.recovered ++ flat_map sent_line o.sent ++ flat_map got_line o.got
+    ++ flat_map opened_line o.opened ++ text_line (codes "lynx") o.lynx ++ text_line (codes "ms") o.ms ++ flat_map datagram_line o.datagrams
 
 abbrev pub fault_text : WorldFault → List ℕ
 fault_text (BadEvent index) = codes "bad event " ++ decimal index ++ 10 ∷ []
 fault_text (PortReused index) = codes "port reused " ++ decimal index ++ 10 ∷ []
+fault_text (NotKept index) = codes "not kept " ++ decimal index ++ 10 ∷ []
 fault_text (NotLoaded index) = codes "not loaded " ++ decimal index ++ 10 ∷ []
 fault_text Memory = codes "out of memory" ++ 10 ∷ []
 
@@ -66,6 +70,7 @@ fault_text Memory = codes "out of memory" ++ 10 ∷ []
 abbrev pub IsAtFault : List Event → (now : Option (List Keeping)) → WorldFault → Type 0
 IsAtFault events now (BadEvent index) = IsBadAt events (Some []) now index
 IsAtFault events now (PortReused index) = IsReusedAt events (Some []) now index
+IsAtFault events now (NotKept index) = IsNotKeptAt events (Some []) now index
 IsAtFault events now (NotLoaded index) = IsNotLoadedAt events (Some []) now index
 IsAtFault events now Memory = HasStopped events (Some []) now
 

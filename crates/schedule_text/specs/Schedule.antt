@@ -3,12 +3,12 @@ use Rattle.std.specs.Prelude.{◌≡◌, ℕ, ◌-◌, ◌<◌, ◌==◌, ◌^�
 use Rattle.std.specs.Option.{option_map}
 use Rattle.tftp_packet.specs.declared.endpoint.Endpoint.{Endpoint}
 use Rattle.archive_client.specs.Client.{put, get}
-use Rattle.archive_model.specs.World.{Event, begin, deliver, client_times_out, server_times_out, stray, restart}
+use Rattle.archive_model.specs.World.{Event, begin, deliver, client_times_out, server_times_out, stray, restart, unknown_keep}
 use Rattle.schedule_text.specs.declared.keyword.Verb.{Verb}
-use Rattle.schedule_text.specs.declared.keyword.Verb.TheVariants.{Begin, Deliver, ClientTimeout, ServerTimeout, Stray, Restart}
+use Rattle.schedule_text.specs.declared.keyword.Verb.TheVariants.{Begin, Deliver, ClientTimeout, ServerTimeout, Stray, Restart, UnknownKeep}
 use Rattle.schedule_text.specs.declared.keyword.OperationKind.{OperationKind}
 use Rattle.schedule_text.specs.declared.keyword.OperationKind.TheVariants.{Put, Get}
-use Rattle.schedule_text.specs.Words.{verb_in, word_count, kind_in, ruleset_in, number_in, endpoint_in, bytes_in}
+use Rattle.schedule_text.specs.Words.{verb_in, word_count, kind_in, ruleset_in, found_in, number_in, endpoint_in, bytes_in}
 
 -- ---- the lines of a text, and the words of a line
 
@@ -76,6 +76,13 @@ stray_in None to hex = None
 stray_in (Some from) None hex = None
 stray_in (Some from) (Some to) hex = stray_of from to (bytes_in hex)
 
+abbrev pub unknown_keep_of : (index : Option ℕ) → (found : Option Bool) → Option Event
+unknown_keep_of None found = None
+unknown_keep_of (Some index) found = option_map (unknown_keep index) found
+
+abbrev pub unknown_keep_in : (index found : List ℕ) → Option Event
+unknown_keep_in index found = unknown_keep_of (number_in (2 ^ 64 - 1) index) (found_in found)
+
 abbrev pub event_with : Verb → List (List ℕ) → Option Event
 event_with Begin words = begin_in (word_at words 1) (endpoint_in (word_at words 2) (word_at words 3)) (word_at words 4)
 event_with Deliver words = deliver_in (word_at words 1) (word_at words 2)
@@ -84,6 +91,7 @@ event_with ServerTimeout words = server_timeout_in (word_at words 1)
 event_with Stray words =
     stray_in (endpoint_in (word_at words 1) (word_at words 2)) (endpoint_in (word_at words 3) (word_at words 4)) (word_at words 5)
 event_with Restart words = Some restart
+event_with UnknownKeep words = unknown_keep_in (word_at words 1) (word_at words 2)
 
 abbrev pub event_by : Option Verb → List (List ℕ) → Option Event
 event_by None words = None

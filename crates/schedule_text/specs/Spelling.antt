@@ -5,7 +5,8 @@ use Rattle.hex.specs.Hex.{encode_lower}
 use Rattle.tftp_packet.specs.declared.endpoint.Endpoint.{Endpoint}
 use Rattle.tws_file.specs.Words.{ruleset_name}
 use Rattle.archive_client.specs.Client.{put, get}
-use Rattle.archive_model.specs.World.{Event, begin, deliver, client_times_out, server_times_out, stray, restart}
+use Rattle.schedule_text.specs.Words.{found_word}
+use Rattle.archive_model.specs.World.{Event, begin, deliver, client_times_out, server_times_out, stray, restart, unknown_keep}
 
 -- ---- events whose parts fit their types
 
@@ -20,6 +21,7 @@ Fits (client_times_out client) = FitsEndpoint client
 Fits (server_times_out port) = port < 2 ^ 16
 Fits (stray d) = FitsEndpoint d.source × FitsEndpoint d.target × IsBytes d.bytes
 Fits restart = Unit {0}
+Fits (unknown_keep index found) = index < 2 ^ 64
 
 abbrev pub AllFit : List Event → Type 0
 AllFit [] = Unit {0}
@@ -44,6 +46,7 @@ event_words (client_times_out client) = codes "client-timeout" ∷ endpoint_word
 event_words (server_times_out port) = codes "server-timeout" ∷ decimal port ∷ []
 event_words (stray d) = codes "stray" ∷ endpoint_words d.source (endpoint_words d.target (bytes_word d.bytes ∷ []))
 event_words restart = codes "restart" ∷ []
+event_words (unknown_keep index found) = codes "unknown-keep" ∷ decimal index ∷ found_word found ∷ []
 
 -- each word with a space after it
 abbrev pub spelled : (words : List (List ℕ)) → List ℕ

@@ -1,5 +1,5 @@
 -- What a word of a line may be: a keyword, a number, or bytes; and the endpoint that two of them are.
-use Rattle.std.specs.Prelude.{ℕ, ◌+◌, ◌-◌, ◌*◌, ◌^◌, nat_le, ◌&&◌, List, [], ◌∷◌, codes, Option, None, Some, cond}
+use Rattle.std.specs.Prelude.{ℕ, ◌+◌, ◌-◌, ◌*◌, ◌^◌, nat_le, Bool, true, false, ◌&&◌, List, [], ◌∷◌, codes, Option, None, Some, cond}
 use Rattle.std.specs.Result.{result_ok}
 use Rattle.std.specs.Str.{bytes_eq}
 use Rattle.hex.specs.Hex.{decode_of}
@@ -8,7 +8,7 @@ use Rattle.tws_file.specs.declared.«ruleset».Ruleset.{Ruleset}
 use Rattle.tws_file.specs.declared.«ruleset».Ruleset.TheVariants.{Lynx, Ms}
 use Rattle.tws_file.specs.Words.{ruleset_name}
 use Rattle.schedule_text.specs.declared.keyword.Verb.{Verb}
-use Rattle.schedule_text.specs.declared.keyword.Verb.TheVariants.{Begin, Deliver, ClientTimeout, ServerTimeout, Stray, Restart}
+use Rattle.schedule_text.specs.declared.keyword.Verb.TheVariants.{Begin, Deliver, ClientTimeout, ServerTimeout, Stray, Restart, UnknownKeep}
 use Rattle.schedule_text.specs.declared.keyword.OperationKind.{OperationKind}
 use Rattle.schedule_text.specs.declared.keyword.OperationKind.TheVariants.{Put, Get}
 
@@ -22,6 +22,7 @@ verb_word ClientTimeout = codes "client-timeout"
 verb_word ServerTimeout = codes "server-timeout"
 verb_word Stray = codes "stray"
 verb_word Restart = codes "restart"
+verb_word UnknownKeep = codes "unknown-keep"
 
 -- how many words its line has
 abbrev pub word_count : Verb → ℕ
@@ -31,6 +32,7 @@ word_count ClientTimeout = 3
 word_count ServerTimeout = 2
 word_count Stray = 6
 word_count Restart = 1
+word_count UnknownKeep = 3
 
 abbrev pub verb_in : (word : List ℕ) → Option Verb
 verb_in word =
@@ -39,7 +41,8 @@ verb_in word =
     (cond (bytes_eq word (verb_word ClientTimeout)) (Some ClientTimeout)
     (cond (bytes_eq word (verb_word ServerTimeout)) (Some ServerTimeout)
     (cond (bytes_eq word (verb_word Stray)) (Some Stray)
-    (cond (bytes_eq word (verb_word Restart)) (Some Restart) None)))))
+    (cond (bytes_eq word (verb_word Restart)) (Some Restart)
+    (cond (bytes_eq word (verb_word UnknownKeep)) (Some UnknownKeep) None))))))
 
 abbrev pub kind_word : OperationKind → List ℕ
 kind_word Put = codes "put"
@@ -51,6 +54,14 @@ kind_in word = cond (bytes_eq word (kind_word Put)) (Some Put) (cond (bytes_eq w
 abbrev pub ruleset_in : (word : List ℕ) → Option Ruleset
 ruleset_in word =
     cond (bytes_eq word (ruleset_name Lynx)) (Some Lynx) (cond (bytes_eq word (ruleset_name Ms)) (Some Ms) None)
+
+-- whether the next start finds a collection
+abbrev pub found_word : (found : Bool) → List ℕ
+found_word true = codes "found"
+found_word false = codes "lost"
+
+abbrev pub found_in : (word : List ℕ) → Option Bool
+found_in word = cond (bytes_eq word (found_word true)) (Some true) (cond (bytes_eq word (found_word false)) (Some false) None)
 
 -- ---- numbers
 

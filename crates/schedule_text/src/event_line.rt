@@ -3,10 +3,10 @@
 ghost use Rattle.std.specs.Prelude.{◌≡◌, Some, IfOk, map};
 ghost use Rattle.std.specs.Option.{option_map};
 ghost use Rattle.archive_world.specs.View.{event_of};
-ghost use Rattle.schedule_text.specs.Schedule.{event_in, begin_of, begin_in, deliver_in, client_timeout_in, server_timeout_in, stray_in};
+ghost use Rattle.schedule_text.specs.Schedule.{event_in, begin_of, begin_in, deliver_in, client_timeout_in, server_timeout_in, stray_in, unknown_keep_in};
 
 use crate::fields::{bytes, endpoint, index, port};
-use crate::keyword::{OperationKind, Verb, ruleset_named};
+use crate::keyword::{OperationKind, Verb, is_found, ruleset_named};
 use crate::words::word_at;
 use archive_world::{Datagram, Event, Op, OpKind};
 use std::alloc::{AllocError, Global};
@@ -104,6 +104,18 @@ fn stray(
     }
 }
 
+fn unknown_keep(place: &[u8], word: &[u8]) -> Option<Event>
+    ensures { option_map event_of result ≡ unknown_keep_in place.now word.now }
+{
+    let Some(index) = index(place) else {
+        return None;
+    };
+    match is_found(word) {
+        Some(found) => Some(Event::UnknownKeep { index, found }),
+        None => None,
+    }
+}
+
 /// The event that these words name, if they name one.
 ///
 /// # Errors
@@ -127,5 +139,6 @@ pub(crate) fn event(alloc: Global, words: &[Vec<u8>]) -> Result<Option<Event>, A
         Verb::ServerTimeout => Ok(server_timeout(one)),
         Verb::Stray => stray(alloc, endpoint(one, two), endpoint(three, four), five),
         Verb::Restart => Ok(Some(Event::Restart)),
+        Verb::UnknownKeep => Ok(unknown_keep(one, two)),
     }
 }

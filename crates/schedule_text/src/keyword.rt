@@ -1,7 +1,7 @@
-//! The words that a line begins with, and those of a `begin` line.
+//! The words that a line begins with, and those of `begin` and `unknown-keep` lines.
 
-ghost use Rattle.std.specs.Prelude.{◌≡◌};
-ghost use Rattle.schedule_text.specs.Words.{verb_word, verb_in, word_count, kind_word, kind_in, ruleset_in};
+ghost use Rattle.std.specs.Prelude.{◌≡◌, false, true};
+ghost use Rattle.schedule_text.specs.Words.{verb_word, verb_in, word_count, kind_word, kind_in, ruleset_in, found_word, found_in};
 ghost use Rattle.tws_file.specs.Words.{ruleset_name};
 
 use tws_file::Ruleset;
@@ -15,6 +15,7 @@ pub enum Verb {
     ServerTimeout,
     Stray,
     Restart,
+    UnknownKeep,
 }
 
 impl Verb {
@@ -28,6 +29,7 @@ impl Verb {
             Verb::ServerTimeout => b"server-timeout",
             Verb::Stray => b"stray",
             Verb::Restart => b"restart",
+            Verb::UnknownKeep => b"unknown-keep",
         }
     }
 
@@ -42,6 +44,7 @@ impl Verb {
             Verb::ServerTimeout => 2,
             Verb::Stray => 6,
             Verb::Restart => 1,
+            Verb::UnknownKeep => 3,
         }
     }
 
@@ -66,6 +69,9 @@ impl Verb {
         }
         if word == Verb::Restart.word() {
             return Some(Verb::Restart);
+        }
+        if word == Verb::UnknownKeep.word() {
+            return Some(Verb::UnknownKeep);
         }
         None
     }
@@ -111,6 +117,31 @@ pub(crate) fn ruleset_named(word: &[u8]) -> Option<Ruleset>
     }
     if word == Ruleset::Ms.name().as_bytes() {
         return Some(Ruleset::Ms);
+    }
+    None
+}
+
+fn found() -> &'static [u8]
+    ensures { result.now ≡ found_word true }
+{
+    b"found"
+}
+
+fn lost() -> &'static [u8]
+    ensures { result.now ≡ found_word false }
+{
+    b"lost"
+}
+
+/// Whether this word says that the next start finds a collection, if it says either.
+pub(crate) fn is_found(word: &[u8]) -> Option<bool>
+    ensures { result ≡ found_in word.now }
+{
+    if word == found() {
+        return Some(true);
+    }
+    if word == lost() {
+        return Some(false);
     }
     None
 }

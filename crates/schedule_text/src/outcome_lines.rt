@@ -3,7 +3,7 @@
 ghost use Rattle.std.specs.Prelude.{◌≡◌, ◌++◌, string_bytes, OnOk, IfOk};
 ghost use Rattle.std.specs.List.{flat_map};
 ghost use Rattle.archive_world.specs.View.{asked_as};
-ghost use Rattle.schedule_text.specs.Answer.{bytes_text, file_line, text_line, asked_text, taken_line, sent_line, got_line, opened_line, datagram_line, outcome_text, fault_text};
+ghost use Rattle.schedule_text.specs.Answer.{bytes_text, file_line, text_line, asked_text, taken_line, recovered_line, sent_line, got_line, opened_line, datagram_line, outcome_text, fault_text};
 
 use archive_world::{Asked, Datagram, GotFile, Opening, Outcome, TakenFile, WorldFault};
 use std::alloc::{AllocError, Global};
@@ -84,6 +84,15 @@ fn push_all_taken(alloc: Global, text: &mut String, all: &[TakenFile]) -> Result
     Ok(())
 }
 
+fn push_all_recovered(alloc: Global, text: &mut String, all: &[TakenFile]) -> Result<(), AllocError>
+    ensures { OnOk result (string_bytes text.new ≡ string_bytes text.old ++ flat_map recovered_line all.now) }
+{
+    for one in all {
+        push_file(alloc, text, "recovered", one.peer, one.file.as_slice())?;
+    }
+    Ok(())
+}
+
 fn push_all_sent(text: &mut String, all: &[Endpoint]) -> Result<(), AllocError>
     ensures { OnOk result (string_bytes text.new ≡ string_bytes text.old ++ flat_map sent_line all.now) }
 {
@@ -130,6 +139,7 @@ pub(crate) fn outcome_lines(alloc: Global, outcome: &Outcome) -> Result<String, 
 {
     let mut text = String::new(alloc);
     push_all_taken(alloc, &mut text, &outcome.taken)?;
+    push_all_recovered(alloc, &mut text, &outcome.recovered)?;
     push_all_sent(&mut text, &outcome.sent)?;
     push_all_got(alloc, &mut text, &outcome.got)?;
     push_all_opened(&mut text, &outcome.opened)?;
@@ -151,6 +161,7 @@ pub(crate) fn fault_line(alloc: Global, fault: WorldFault) -> Result<String, All
     match fault {
         WorldFault::BadEvent(index) => writeln!(text, "bad event {index}")?,
         WorldFault::PortReused(index) => writeln!(text, "port reused {index}")?,
+        WorldFault::NotKept(index) => writeln!(text, "not kept {index}")?,
         WorldFault::NotLoaded(index) => writeln!(text, "not loaded {index}")?,
         WorldFault::Memory => writeln!(text, "out of memory")?,
     }

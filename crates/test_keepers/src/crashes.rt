@@ -1,24 +1,47 @@
 //! A crash at each call of a keep.
 
 // Each call of a keep fails in turn, with every later one, and then the program stops.
-use crate::fuse::Fuse;
 use crate::samples::*;
-use archive_keepers::{FolderFault, FolderKeeper, MemoryFolder, replace};
+use archive_keepers::FolderKeeper;
 use archive_table::{KeepFault, Keeper};
+use folders::MemoryFolder;
 use std::test::Fail;
 use test_samples::NINETY;
 use tws_file::Ruleset;
 
-// Keeps NINETY over HUNDRED in a folder that passes this many calls on. Returns the result, and the folder.
-fn keep_with(rt: HostRuntime, calls: u64) -> Result<(Result<(), FolderFault>, MemoryFolder), Fail> {
-    let next = collection(rt, NINETY)?;
-    let mut fuse = Fuse::new(folder(rt)?, calls);
-    let result = replace(&mut fuse, Ruleset::Lynx, &next);
-    Ok((result, fuse.into_folder()))
+type MemoryKeeper = FolderKeeper<MemoryFolder>;
+
+// What became of a keep: what the keeper returned, and whether it is still usable.
+type Kept = (Result<(), KeepFault>, bool);
+
+const KEPT: Kept = (Ok(()), true);
+
+const NOT_KEPT: Kept = (Err(KeepFault::Device), true);
+
+const UNKNOWN: Kept = (Err(KeepFault::Device), false);
+
+// A keeper over a folder that has HUNDRED, and lets this many calls pass.
+fn failing(rt: HostRuntime, calls: u64) -> Result<MemoryKeeper, Fail> {
+    let mut folder = folder(rt)?;
+    folder.fail_after(calls);
+    Ok(FolderKeeper::new(folder))
+}
+
+// Keeps NINETY.
+fn keep_ninety(rt: HostRuntime, keeper: &mut MemoryKeeper) -> Result<Kept, Fail> {
+    let result = keep(rt, keeper, NINETY)?;
+    Ok((result, keeper.is_usable()))
+}
+
+// Keeps NINETY over HUNDRED with this many calls. Returns what became of it, and the folder.
+fn keep_with(rt: HostRuntime, calls: u64) -> Result<(Kept, MemoryFolder), Fail> {
+    let mut keeper = failing(rt, calls)?;
+    let kept = keep_ninety(rt, &mut keeper)?;
+    Ok((kept, keeper.into_folder()))
 }
 
 // Which text a keeper loads that also has the MS collection.
-fn loaded_beside_ms(rt: HostRuntime, keeper: &mut FolderKeeper<MemoryFolder>) -> Result<u8, Fail> {
+fn loaded_beside_ms(rt: HostRuntime, keeper: &mut MemoryKeeper) -> Result<u8, Fail> {
     if loads_ms(rt, keeper)? {
         Ok(loaded(rt, keeper)?)
     } else {
@@ -34,16 +57,12 @@ fn left(rt: HostRuntime, folder: MemoryFolder, are_names_lost: bool) -> Result<u
 
 // The result of a keep with this many calls, and which text is loaded afterwards: if the changes of names are lost, and
 // if they are not.
-fn outcome(rt: HostRuntime, calls: u64) -> Result<(Result<(), FolderFault>, u8, u8), Fail> {
+fn outcome(rt: HostRuntime, calls: u64) -> Result<(Kept, u8, u8), Fail> {
     let (result, folder) = keep_with(rt, calls)?;
     let lost = left(rt, folder, true)?;
     let (_, folder) = keep_with(rt, calls)?;
     Ok((result, lost, left(rt, folder, false)?))
 }
-
-const NOT_KEPT: Result<(), FolderFault> = Err(FolderFault::NotKept(KeepFault::Device));
-
-const UNKNOWN: Result<(), FolderFault> = Err(FolderFault::Unknown);
 
 // The calls are: remove the draft, create it, sync it, rename it, sync the folder.
 #[test]
@@ -54,19 +73,17 @@ fn a_crash_at_each_call(rt: HostRuntime) -> Result<(), Fail> {
         (2, (NOT_KEPT, 1, 1)),
         (3, (UNKNOWN, 1, 1)),
         (4, (UNKNOWN, 1, 2)),
-        (5, (Ok(()), 2, 2)),
+        (5, (KEPT, 2, 2)),
     ] {
         assert_eq!(rt; outcome(rt, calls)?, left);
     }
     Ok(())
 }
 
-type FusedKeeper = FolderKeeper<Fuse<MemoryFolder>>;
-
 // The results of two keeps, whether the keeper is usable after the first, and how many calls failed.
 fn keep_twice(
     rt: HostRuntime,
-    keeper: &mut FusedKeeper,
+    keeper: &mut MemoryKeeper,
 ) -> Result<([Result<(), KeepFault>; 2], bool, u64), Fail> {
     let first = keep(rt, keeper, NINETY)?;
     let usable = keeper.is_usable();
@@ -76,7 +93,7 @@ fn keep_twice(
 
 // The same in a folder whose fifth call fails.
 fn kept_twice(rt: HostRuntime) -> Result<([Result<(), KeepFault>; 2], bool, u64), Fail> {
-    let mut keeper = FolderKeeper::new(Fuse::new(folder(rt)?, 4));
+    let mut keeper = failing(rt, 4)?;
     keep_twice(rt, &mut keeper)
 }
 
@@ -87,7 +104,7 @@ fn an_unknown_outcome_ends_the_keeper(rt: HostRuntime) -> Result<(), Fail> {
     Ok(())
 }
 
-fn fails_to_load(rt: HostRuntime, keeper: &mut FusedKeeper) -> bool {
+fn fails_to_load(rt: HostRuntime, keeper: &mut MemoryKeeper) -> bool {
     matches!(
         keeper.load(rt.alloc(), Ruleset::Lynx),
         Err(KeepFault::Device)
@@ -97,7 +114,7 @@ fn fails_to_load(rt: HostRuntime, keeper: &mut FusedKeeper) -> bool {
 // A keeper after a keep and a load: whether both failed, whether it is usable, and how many calls failed.
 fn keep_and_load(
     rt: HostRuntime,
-    keeper: &mut FusedKeeper,
+    keeper: &mut MemoryKeeper,
 ) -> Result<(bool, bool, bool, u64), Fail> {
     let kept = keep(rt, keeper, NINETY)?;
     let has_failed = kept == Err(KeepFault::Device);
@@ -112,7 +129,7 @@ fn keep_and_load(
 
 // The same of a folder that fails at once.
 fn fails_at_both(rt: HostRuntime) -> Result<(bool, bool, bool, u64), Fail> {
-    let mut keeper = FolderKeeper::new(Fuse::new(folder(rt)?, 0));
+    let mut keeper = failing(rt, 0)?;
     keep_and_load(rt, &mut keeper)
 }
 
@@ -123,7 +140,7 @@ fn a_folder_that_fails(rt: HostRuntime) -> Result<(), Fail> {
 }
 
 // What a keeper loads before a keep of NINETY and after it.
-fn load_around(rt: HostRuntime, keeper: &mut FolderKeeper<MemoryFolder>) -> Result<(u8, u8), Fail> {
+fn load_around(rt: HostRuntime, keeper: &mut MemoryKeeper) -> Result<(u8, u8), Fail> {
     let before = loaded(rt, keeper)?;
     keep(rt, keeper, NINETY)??;
     Ok((before, loaded(rt, keeper)?))

@@ -4,8 +4,9 @@
 ghost use Rattle.std.specs.Prelude.{false};
 
 use crate::samples::*;
-use archive_keepers::{FileName, Folder, FolderKeeper, MemoryFolder};
+use archive_keepers::{FolderKeeper, draft_name};
 use archive_table::{KeepFault, Keeper};
+use folders::{CallFault, Folder, MemoryFolder};
 use std::alloc::Allocator;
 use std::io;
 use std::io::{ErrorKind, Write};
@@ -45,30 +46,26 @@ struct FullFolder {
 impl Folder for FullFolder {
     type File = Limited;
 
+    ghost use Rattle.folders.specs.Folder.{no_model};
+
     ghost has_model = { false };
 
-    ghost reads = { λ _ _ _. Unit {0} };
+    ghost model = { no_model };
 
-    ghost holds = { λ _ _ _. Unit {0} };
-
-    ghost leaves = { λ _ _ _. Unit {0} };
-
-    ghost moment = { λ _. 0 };
-
-    ghost left_since = { λ _ _ _ _. Unit {0} };
+    ghost undoes_renames = { false };
 
     ghost faults = { λ s. ⟦<MemoryFolder as Folder>⟧.faults s.folder };
 
-    ghost counts_now = { λ _ _ _ _ _ _ _. tt };
+    fn contains(&mut self, name: &str) -> Result<bool, CallFault> {
+        self.folder.contains(name)
+    }
 
-    ghost only_now = { λ _ _ _ _ _. tt };
-
-    fn remove(&mut self, name: FileName) -> Result<(), KeepFault> {
+    fn remove(&mut self, name: &str) -> Result<(), CallFault> {
         self.folder.remove(name)
     }
 
-    fn create_new(&mut self, name: FileName) -> Result<Limited, KeepFault> {
-        let file = self.folder.create_new(name)?;
+    fn create_new(&mut self, name: &str, target: &str) -> Result<Limited, CallFault> {
+        let file = self.folder.create_new(name, target)?;
         let room = self.room;
         Ok(Limited { file, room })
     }
@@ -77,23 +74,23 @@ impl Folder for FullFolder {
         self.folder.abandon(file.file);
     }
 
-    fn sync(&mut self, name: FileName, file: Limited) -> Result<(), KeepFault> {
+    fn sync(&mut self, name: &str, file: Limited) -> Result<(), CallFault> {
         self.folder.sync(name, file.file)
     }
 
-    fn rename(&mut self, from: FileName, to: FileName) -> Result<(), KeepFault> {
+    fn rename(&mut self, from: &str, to: &str) -> Result<(), CallFault> {
         self.folder.rename(from, to)
     }
 
-    fn sync_folder(&mut self) -> Result<(), KeepFault> {
+    fn sync_folder(&mut self) -> Result<(), CallFault> {
         self.folder.sync_folder()
     }
 
     fn read<A: Allocator>(
         &mut self,
         alloc: A,
-        name: FileName,
-    ) -> Result<Option<Vec<u8, A>>, KeepFault> {
+        name: &str,
+    ) -> Result<Option<Vec<u8, A>>, CallFault> {
         self.folder.read(alloc, name)
     }
 
@@ -103,10 +100,8 @@ impl Folder for FullFolder {
 }
 
 // Whether there is a draft.
-fn has_draft(rt: HostRuntime, folder: FullFolder) -> Result<bool, KeepFault> {
-    let mut folder = folder;
-    let draft = folder.read(rt.alloc(), FileName::Draft(Ruleset::Lynx))?;
-    Ok(draft.is_some())
+fn has_draft(folder: FullFolder) -> bool {
+    folder.folder.file(draft_name(Ruleset::Lynx)).is_some()
 }
 
 // The result of a keep of NINETY over HUNDRED, and what is loaded then.
@@ -128,7 +123,7 @@ fn kept_in(
     let mut keeper = FolderKeeper::new(FullFolder { folder, room });
     let kept = keep_and_load(rt, &mut keeper)?;
     let usable = keeper.is_usable();
-    Ok((kept, has_draft(rt, keeper.into_folder())?, usable))
+    Ok((kept, has_draft(keeper.into_folder()), usable))
 }
 
 #[test]

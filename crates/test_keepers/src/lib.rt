@@ -6,8 +6,6 @@ mod crashes;
 #[cfg(test)]
 mod full_disk;
 #[cfg(test)]
-mod fuse;
-#[cfg(test)]
 mod limits;
 #[cfg(test)]
 mod samples;

@@ -1,8 +1,9 @@
 //! The collections that the tests keep.
 
 // Folders and collections for the tests.
-use archive_keepers::{FolderKeeper, MemoryFolder};
+use archive_keepers::FolderKeeper;
 use archive_table::{KeepFault, Keeper};
+use folders::MemoryFolder;
 use std::test::Fail;
 use test_samples::{EMPTY_MS, HUNDRED, NINETY};
 use tws_best::Collection;

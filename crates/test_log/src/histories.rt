@@ -1,16 +1,16 @@
 //! What a log adds to the history.
 
 // The files of a history.
-ghost use Rattle.std.specs.Prelude.{None, false};
+ghost use Rattle.std.specs.Prelude.{false};
 
 use crate::site::{Input, Morning, log_steps};
-use archive_history::{CallFailed, HistoryFolder, MemoryHistory};
 use archive_keepers::NoKeeper;
 use archive_log::ServerLog;
 use archive_table::Table;
+use folders::{CallFault, Folder, MemoryFolder};
 use log::Log;
 use log::sink::{Discard, Memory};
-use std::alloc::Global;
+use std::alloc::{Allocator, Global};
 use std::io;
 use std::io::{ErrorKind, Write};
 use std::test::Fail;
@@ -26,7 +26,7 @@ const THIRD: &str = "20261127T091500.123Z-0.0.0.2-5000-lynx-2.tws";
 const DRAFT: &str = "20261127T091500.123Z-0.0.0.2-5000-lynx.tws.new";
 
 // Lets a new server without a keeper make these steps, and logs them.
-fn serve<C: Clock, L: Log, H: HistoryFolder>(
+fn serve<C: Clock, L: Log, H: Folder>(
     alloc: Global,
     log: &mut ServerLog<C, L, H>,
     inputs: &[Input<'_>],
@@ -36,19 +36,19 @@ fn serve<C: Clock, L: Log, H: HistoryFolder>(
 }
 
 // The history in memory of a server that has made these steps.
-fn history_of(alloc: Global, inputs: &[Input<'_>]) -> Result<Option<MemoryHistory>, Fail> {
+fn history_of(alloc: Global, inputs: &[Input<'_>]) -> Result<Option<MemoryFolder>, Fail> {
     let mut log = ServerLog::new(
         alloc,
         Morning::new(),
         Discard,
-        Some(MemoryHistory::new(alloc)),
+        Some(MemoryFolder::new(alloc)),
     );
     serve(alloc, &mut log, inputs)?;
     Ok(log.into_history())
 }
 
 // Whether a name has this file.
-fn is_file(history: &MemoryHistory, name: &str, wanted: &[u8]) -> bool {
+fn is_file(history: &MemoryFolder, name: &str, wanted: &[u8]) -> bool {
     match history.file(name) {
         Some(file) => file == wanted,
         None => false,
@@ -56,7 +56,7 @@ fn is_file(history: &MemoryHistory, name: &str, wanted: &[u8]) -> bool {
 }
 
 // Whether a history has the slower solution, the faster one, and nothing else.
-fn has_both(history: &Option<MemoryHistory>) -> bool {
+fn has_both(history: &Option<MemoryFolder>) -> bool {
     match history {
         Some(history) => {
             is_file(history, FIRST, HUNDRED)
@@ -87,7 +87,7 @@ fn what_changes_a_collection(rt: HostRuntime) -> Result<(), Fail> {
 }
 
 // Lets a server with this history take the solution, and logs that here. Returns the history.
-fn record<H: HistoryFolder>(alloc: Global, sink: &Memory, history: H) -> Result<Option<H>, Fail>
+fn record<H: Folder>(alloc: Global, sink: &Memory, history: H) -> Result<Option<H>, Fail>
 where
     H: Drop,
 {
@@ -106,11 +106,7 @@ fn ends_with(sink: Memory, wanted: &str) -> bool {
 }
 
 // A put whose history fails from a call on: whether this is the last line, and the history.
-fn recorded<H: HistoryFolder>(
-    alloc: Global,
-    history: H,
-    wanted: &str,
-) -> Result<(bool, Option<H>), Fail>
+fn recorded<H: Folder>(alloc: Global, history: H, wanted: &str) -> Result<(bool, Option<H>), Fail>
 where
     H: Drop,
 {
@@ -121,7 +117,7 @@ where
 
 // The same with a history in memory that lets so many calls pass, and whether the file is there.
 fn recorded_until(alloc: Global, left: u64, wanted: &str) -> Result<(bool, bool), Fail> {
-    let mut history = MemoryHistory::new(alloc);
+    let mut history = MemoryFolder::new(alloc);
     history.fail_after(left);
     let (is_last, history) = recorded(alloc, history, wanted)?;
     let is_there = match history {
@@ -136,6 +132,7 @@ fn each_call_fails(rt: HostRuntime) -> Result<(), Fail> {
     let rows = [
         "[ERROR tws] not recorded time=2026-11-27T09:15:00.123Z peer=0.0.0.2:5000 why=not looked up",
         "[ERROR tws] not recorded time=2026-11-27T09:15:00.123Z peer=0.0.0.2:5000 why=not created",
+        "[ERROR tws] not recorded time=2026-11-27T09:15:00.123Z peer=0.0.0.2:5000 why=not created",
         "[ERROR tws] not recorded time=2026-11-27T09:15:00.123Z peer=0.0.0.2:5000 why=not synced",
         "[ERROR tws] not recorded time=2026-11-27T09:15:00.123Z peer=0.0.0.2:5000 why=not renamed",
         "[ERROR tws] not recorded time=2026-11-27T09:15:00.123Z peer=0.0.0.2:5000 why=folder not synced",
@@ -143,7 +140,7 @@ fn each_call_fails(rt: HostRuntime) -> Result<(), Fail> {
     ];
     for (left, wanted) in rows.iter().enumerate() {
         let found = recorded_until(rt.alloc(), left as u64, *wanted)?;
-        assert_eq!(rt; found, (true, left >= 4));
+        assert_eq!(rt; found, (true, left >= 5));
     }
     Ok(())
 }
@@ -162,65 +159,88 @@ impl Write for FullFile {
     }
 }
 
-// A folder without a model, each file of which takes no bytes, and whether the draft was removed.
+// A folder without a model, each file of which takes no bytes, and how often the draft was removed.
 #[derive(Drop)]
 struct FullHistory {
-    was_cleared: bool,
+    cleared: u64,
+    faults: u64,
 }
 
-impl HistoryFolder for FullHistory {
+impl Folder for FullHistory {
     type File = FullFile;
+
+    ghost use Rattle.folders.specs.Folder.{no_model};
 
     ghost has_model = { false };
 
-    ghost file_at = { λ _ _. None };
+    ghost model = { no_model };
 
-    ghost is_synced = { λ _ _. false };
+    ghost undoes_renames = { false };
 
-    ghost left_at = { λ _ _. None };
+    ghost faults = { λ folder. folder.faults };
 
-    ghost faults = { λ _. 0 };
-
-    fn contains(&mut self, _name: &str) -> Result<bool, CallFailed> {
+    fn contains(&mut self, _name: &str) -> Result<bool, CallFault> {
         Ok(false)
     }
 
-    fn create_new(&mut self, _name: &str) -> Result<FullFile, CallFailed> {
+    fn remove(&mut self, name: &str) -> Result<(), CallFault> {
+        if name == DRAFT {
+            self.cleared = self.cleared.saturating_add(1);
+        }
+        Ok(())
+    }
+
+    fn create_new(&mut self, _name: &str, _target: &str) -> Result<FullFile, CallFault> {
         Ok(FullFile)
     }
 
-    fn sync(&mut self, _name: &str, _file: FullFile) -> Result<(), CallFailed> {
+    fn abandon(&mut self, _file: FullFile) {
+        self.faults = self.faults.saturating_add(1);
+    }
+
+    fn sync(&mut self, _name: &str, _file: FullFile) -> Result<(), CallFault> {
         Ok(())
     }
 
-    fn rename(&mut self, _from: &str, _to: &str) -> Result<(), CallFailed> {
+    fn rename(&mut self, _from: &str, _to: &str) -> Result<(), CallFault> {
         Ok(())
     }
 
-    fn remove(&mut self, name: &str) -> Result<(), CallFailed> {
-        self.was_cleared = name == DRAFT;
+    fn sync_folder(&mut self) -> Result<(), CallFault> {
         Ok(())
     }
 
-    fn sync_folder(&mut self) -> Result<(), CallFailed> {
-        Ok(())
+    fn read<A: Allocator>(
+        &mut self,
+        _alloc: A,
+        _name: &str,
+    ) -> Result<Option<Vec<u8, A>>, CallFault> {
+        Ok(None)
+    }
+
+    fn last_error(&self) -> Option<io::Error> {
+        None
     }
 }
 
-// Whether this is the last line of a put to such a folder, and the draft was removed.
-fn recorded_in_full(alloc: Global, wanted: &str) -> Result<(bool, bool), Fail> {
-    let (is_last, history) = recorded(alloc, FullHistory { was_cleared: false }, wanted)?;
-    let was_cleared = match history {
-        Some(history) => history.was_cleared,
-        None => false,
+// Whether this is the last line of a put to such a folder, and how often the draft was removed.
+fn recorded_in_full(alloc: Global, wanted: &str) -> Result<(bool, u64), Fail> {
+    let full = FullHistory {
+        cleared: 0,
+        faults: 0,
     };
-    Ok((is_last, was_cleared))
+    let (is_last, history) = recorded(alloc, full, wanted)?;
+    let cleared = match history {
+        Some(history) => history.cleared,
+        None => 0,
+    };
+    Ok((is_last, cleared))
 }
 
 #[test]
 fn a_write_fails(rt: HostRuntime) -> Result<(), Fail> {
     let wanted =
         "[ERROR tws] not recorded time=2026-11-27T09:15:00.123Z peer=0.0.0.2:5000 why=not written";
-    assert_eq!(rt; recorded_in_full(rt.alloc(), wanted)?, (true, true));
+    assert_eq!(rt; recorded_in_full(rt.alloc(), wanted)?, (true, 2));
     Ok(())
 }

@@ -6,3 +6,5 @@
 mod keeping;
 #[cfg(test)]
 mod scene;
+#[cfg(test)]
+mod unknown_keeps;

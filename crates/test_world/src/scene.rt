@@ -22,6 +22,8 @@ pub(crate) enum Act<'a> {
     ClientWaits(Endpoint),
     PortWaits(u16),
     Restart,
+    // The datagram at this place completes a file, which the restart finds or not.
+    UnknownKeep(usize, bool),
 }
 
 fn event_of(alloc: Global, act: Act<'_>) -> Result<Event, Fail> {
@@ -35,6 +37,7 @@ fn event_of(alloc: Global, act: Act<'_>) -> Result<Event, Fail> {
         Act::ClientWaits(client) => Event::ClientTimeout { client },
         Act::PortWaits(port) => Event::ServerTimeout { port },
         Act::Restart => Event::Restart,
+        Act::UnknownKeep(index, found) => Event::UnknownKeep { index, found },
     })
 }
 
@@ -74,12 +77,13 @@ pub(crate) fn failing(
 // The call of a keeper that fails, if none does.
 pub(crate) const NO_CALL: u64 = 0;
 
-// What a run leaves: a file with its peer; the clients that count theirs as sent; an opening's peer, port and count of files
+// What a run leaves: a file with its peer; those whose peers were told that they were not kept; the clients that count theirs as sent; an opening's peer, port and count of files
 // taken; the text of the Lynx collection; a datagram's source, target and bytes; the texts that the keeper was given for it,
 // and whether it kept each.
 #[derive(Clone, Copy)]
 pub(crate) struct Wanted<'a> {
     pub(crate) taken: &'a [(Endpoint, &'a [u8])],
+    pub(crate) recovered: &'a [(Endpoint, &'a [u8])],
     pub(crate) sent: &'a [Endpoint],
     pub(crate) opened: &'a [(Endpoint, u16, usize)],
     pub(crate) lynx: &'a [u8],
@@ -90,6 +94,7 @@ pub(crate) struct Wanted<'a> {
 // What no event at all leaves.
 pub(crate) const NOTHING: Wanted<'static> = Wanted {
     taken: &[],
+    recovered: &[],
     sent: &[],
     opened: &[],
     lynx: EMPTY_LYNX,
@@ -163,6 +168,10 @@ fn was_given(keeper: &MemoryKeeper, wanted: &[(&[u8], bool)]) -> bool {
 fn other_part(outcome: &Outcome, wanted: &Wanted<'_>) -> Option<&'static str> {
     let parts = [
         ("taken", are_taken(outcome.taken.as_slice(), wanted.taken)),
+        (
+            "recovered",
+            are_taken(outcome.recovered.as_slice(), wanted.recovered),
+        ),
         ("sent", outcome.sent.as_slice() == wanted.sent),
         (
             "opened",

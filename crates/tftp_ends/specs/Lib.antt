@@ -4,3 +4,4 @@ pub mod Held
 pub mod View
 pub mod Pair
 pub mod Input
+pub mod Patience

@@ -4,6 +4,8 @@
 ghost use Rattle.std.specs.Prelude.{◌≡◌, ℕ, ◌+◌, ◌<◌, ◌≤◌, List, length};
 ghost use Rattle.std.specs.List.{concat};
 ghost use Rattle.tftp_ends.specs.Chunks.{chunk_count, chunk_of, chunks_of};
+ghost use Rattle.tftp_ends.specs.Ends.{Verdict, Sender, Receiver};
+ghost use Rattle.tftp_ends.specs.Patience.{KeepsSenderWait, CountsSenderWait, KeepsReceiverWait, CountsReceiverWait};
 ghost use Rattle.tftp_ends.specs.Pair.{PairEvent, pair_run, HasFirstBlocks, FinishesWhole, SendsOnce, IsTakenOnce};
 
 use crate::chunks::CHUNK_SIZE;
@@ -21,6 +23,15 @@ pub fn one_pair()
     ensures once { (file : List ℕ) (events : List PairEvent) → SendsOnce (pair_run file events) }
     // What is taken out is the sender's file, at most once.
     ensures taken { (file : List ℕ) (events : List PairEvent) → IsTakenOnce file (pair_run file events) }
+{}
+
+/// What an end has come through counts `MISSES` for each block that it has, and one for each time-out since. No packet lowers it,
+/// and each time-out raises it or ends the end; as fewer than `MISSES` time-outs come in a row, the blocks bound the time-outs.
+pub fn patience()
+    ensures ack { (n : ℕ) (s : Sender) → KeepsSenderWait n s }
+    ensures sender { (s : Sender) → CountsSenderWait s }
+    ensures data { (verdict : Verdict) (n : ℕ) (body : List ℕ) (r : Receiver) → KeepsReceiverWait verdict n body r }
+    ensures receiver { (r : Receiver) → CountsReceiverWait r }
 {}
 
 /// The chunks of a file joined are the file. Each has `CHUNK_SIZE` bytes, except the last, which has 1 to `CHUNK_SIZE`.

@@ -12,7 +12,7 @@ use Rattle.tws_best.proofs.Orders.{rank_tie, rank_itself, no_better}
 use Rattle.tws_best.proofs.Rising.{one_entry, same_entries}
 
 -- two bodies of which neither is better are equal
-even_by : (a b : List ℕ) (r : Ordering) → r ≡ rank_cmp (rank_of a) (rank_of b) → (IsBelow (rank_of a) (rank_of b) → ⊥) → (IsBelow (rank_of b) (rank_of a) → ⊥) → a ≡ b
+pub even_by : (a b : List ℕ) (r : Ordering) → r ≡ rank_cmp (rank_of a) (rank_of b) → (IsBelow (rank_of a) (rank_of b) → ⊥) → (IsBelow (rank_of b) (rank_of a) → ⊥) → a ≡ b
 even_by a b Less is up down = absurd (up (sym is))
 even_by a b Equal is up down = rank_tie a b (sym is)
 even_by a b Greater is up down = let back = rank_total.antisymm (rank_of b) (rank_of a) in absurd (down (rw (← is) at back))
@@ -21,7 +21,8 @@ even_by a b Greater is up down = let back = rank_total.antisymm (rank_of b) (ran
 even : (a b : List ℕ) → (IsBelow (rank_of a) (rank_of b) → ⊥) → (IsBelow (rank_of b) (rank_of a) → ⊥) → a ≡ b
 even a b up down = even_by a b (rank_cmp (rank_of a) (rank_of b)) refl up down
 
-entry_is : (e f : KeyedBody) → e.key ≡ f.key → e.body ≡ f.body → e ≡ f
+-- two entries of one key and one body
+pub entry_is : (e f : KeyedBody) → e.key ≡ f.key → e.body ≡ f.body → e ≡ f
 entry_is e f key body =
     let make : Key → List ℕ → KeyedBody = λ k b. record { key = k; body = b } in
     let whole : make e.key e.body ≡ make f.key f.body = cc in

@@ -8,6 +8,7 @@ pub mod Choices
 pub mod Found
 pub mod ChangeLists
 pub mod Taking
+pub mod Collections
 pub mod Merges
 pub mod Solved
 pub mod BodyTexts

@@ -54,7 +54,7 @@ is_text c fits = record {
 }
 
 -- the solutions of a ruleset among records of that ruleset
-own_solutions : (rules : Ruleset) (rs : List Record) → solved_by rules rules rs ≡ solved_in rs
+pub own_solutions : (rules : Ruleset) (rs : List Record) → solved_by rules rules rs ≡ solved_in rs
 own_solutions Lynx rs = refl
 own_solutions Ms rs = refl
 

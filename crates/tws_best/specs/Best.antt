@@ -128,3 +128,7 @@ pub record IsCollectionOf (rules : Ruleset) (texts : List (List ℕ)) (c : Colle
 -- the collection has this body at this key
 abbrev pub HasBody : List KeyedBody → Key → List ℕ → Type 0
 HasBody entries key body = Contains entries (record { key = key; body = body })
+
+-- the text of the best over the readable files of this ruleset among these, in whatever order they arrived
+abbrev pub IsBestOver : Ruleset → (texts : List (List ℕ)) → (text : List ℕ) → Type 0
+IsBestOver rules texts text = (c : Collected) × IsCollectionOf rules texts c × (text ≡ collection_text c)

@@ -7,3 +7,4 @@ pub mod Lasting
 pub mod Continuing
 pub mod InParts
 pub mod Readable
+pub mod Readability

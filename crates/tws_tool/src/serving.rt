@@ -10,8 +10,7 @@ ghost use Rattle.archive_commands.specs.Serve.{ServeRan, Served, ServedFrom};
 
 use crate::served_folder::{keeper_of, report_unloaded};
 use archive_commands::{ServeArguments, Service, bad_address};
-use archive_history::HostHistory;
-use archive_host::{DirKeeper, UdpWire};
+use archive_host::{DirKeeper, HostFolder, UdpWire};
 use archive_keepers::{NoKeeper, ServedKeeper};
 use archive_log::{ReportingKeeper, ServerLog};
 use archive_server::{Server, ServerObserver};
@@ -62,13 +61,13 @@ fn history_of<P: Files<File = File> + AllocGlobal + Copy, E: Write>(
     rt: P,
     arguments: &ServeArguments,
     errors: &mut E,
-) -> Option<Option<HostHistory<P>>>
+) -> Option<Option<HostFolder<P>>>
     ensures silent { IfSome result (λ _. errors.new ≡ errors.old) }
 {
     let Some(dir) = &arguments.history else {
         return Some(None);
     };
-    match HostHistory::open(rt, dir.as_str()) {
+    match HostFolder::open_unlocked(rt, dir.as_str()) {
         Ok(history) => Some(Some(history)),
         Err(cause) => {
             no_history(&cause, dir.as_str(), errors);

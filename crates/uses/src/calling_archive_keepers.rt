@@ -3,8 +3,9 @@
 ghost use Rattle.std.specs.Prelude.{◌≤◌, length, OnOk};
 ghost use Rattle.tws_best.specs.Best.{collection_text};
 
-use archive_keepers::{Folder, FolderKeeper, Limited};
+use archive_keepers::{FolderKeeper, Limited};
 use archive_table::{KeepFault, Keeper};
+use folders::Folder;
 use std::alloc::Global;
 use tws_best::Collection;
 

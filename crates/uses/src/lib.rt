@@ -18,6 +18,7 @@ pub mod calling_archive_world;
 pub mod calling_byte_output;
 pub mod calling_command_line;
 pub mod calling_file_commands;
+pub mod calling_folders;
 pub mod calling_refusing;
 pub mod calling_show_commands;
 pub mod calling_system_files;

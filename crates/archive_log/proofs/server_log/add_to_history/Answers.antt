@@ -1,17 +1,15 @@
-use Rattle.std.proofs.Common.{ℕ, List, Option, Some, ap, ◌∙◌, subst, sym}
+use Rattle.std.proofs.Common.{Option, Some, ap, ◌∙◌, subst, sym}
 use Rattle.archive_table.specs.Table.{Taken}
-use Rattle.archive_log.specs.ServerLog.{KeepsFile, files_of}
+use Rattle.archive_history.specs.History.{stem_text}
+use Rattle.archive_log.specs.ServerLog.{KeepsFile}
 use Rattle.archive_log.proofs.Recording.{keeps_by}
 use Rattle.archive_log.proofs.server_log.add_to_history.Goals as goal
 
 pub returns : goal.returns
-returns g c = λ modelled.
-    let Files : Type 0 = List ℕ → Option (List ℕ) in
-    let file_at = g.H.HistoryFolder.file_at in
-    let old : Files = file_at c.in-Some.history in
-    let new : Files = file_at c.record.new.folder in
+returns g c = λ modelled undoes.
+    let m = g.H.Folder.model in
     let taken = c.args.taken.now in
-    subst (λ (h : Option _). KeepsFile taken c.args.merged (files_of file_at h) new) (sym c.in-Some.is)
-    (keeps_by c.record.result taken c.args.merged c.args.time.now c.in-Some-ruleset.«ruleset» c.as_str.result.now c.taken.inside.file old new
-    (g.H.HistoryFolder.left_at c.record.new.folder) c.requires c.if-merged-eq0.false (sym c.ruleset.ensures ∙ c.in-Some-ruleset.is) (c.as_str.ensures.value ∙ c.in_ok-stem.ensures ∙ ap (λ (t : Taken). Rattle.archive_history.specs.History.stem_text c.args.time.now t.peer c.in-Some-ruleset.«ruleset») c.taken.view_is)
-    (ap (λ (t : Taken). t.file) c.taken.view_is) (c.record.ensures.recorded modelled) (c.record.ensures.unsynced modelled) (c.record.ensures.failed modelled))
+    subst (λ (h : Option _). KeepsFile m taken c.args.merged h (Some c.record.new.folder)) (sym c.in-Some.is)
+    (keeps_by m c.record.result taken c.args.merged c.args.time.now c.in-Some-ruleset.«ruleset» c.as_str.result.now c.taken.inside.file c.in-Some.history c.record.new.folder
+    c.requires c.if-merged-eq0.false (sym c.ruleset.ensures ∙ c.in-Some-ruleset.is) (c.as_str.ensures.value ∙ c.in_ok-stem.ensures ∙ ap (λ (t : Taken). stem_text c.args.time.now t.peer c.in-Some-ruleset.«ruleset») c.taken.view_is)
+    (ap (λ (t : Taken). t.file) c.taken.view_is) (c.record.ensures.recorded modelled) (c.record.ensures.unsynced modelled) (c.record.ensures.failed modelled undoes))

@@ -1,6 +1,7 @@
-use Rattle.archive_running.proofs.Running.{run-mirrors, run-happens, run-merged, run-clients, run-headline, run-sent, run-fetched}
-use Rattle.archive_running.proofs.Sampling.{sends, fetches}
-use Rattle.archive_running.proofs.RoundSampling.{serves-on}
+use Rattle.archive_running.proofs.Run_Moves.{run-mirrors, run-happens, run-merged, run-clients, run-headline, run-sent, run-fetched}
+use Rattle.archive_running.proofs.Sample_Turns.{sends, fetches}
+use Rattle.archive_running.proofs.Sample_Rounds.{serves-on}
+use Rattle.archive_running.proofs.Sample_Unknown.{can-end}
 use Rattle.archive_running.proofs.laws.running_law.Goals as goal
 
 pub returns-clause-mirrors : goal.returns-clause-mirrors
@@ -22,8 +23,7 @@ pub returns-clause-sent : goal.returns-clause-sent
 returns-clause-sent c = run-sent
 
 pub returns-clause-fetched : goal.returns-clause-fetched
-returns-clause-fetched c = λ texts maps over a members reaches e own c len written now is writes.
-    run-fetched texts maps over a members reaches e own c len written now is writes
+returns-clause-fetched c = λ o r e own k len written now is writes. run-fetched o r e own k len written now is writes
 
 pub returns-clause-sends : goal.returns-clause-sends
 returns-clause-sends c = sends
@@ -33,3 +33,6 @@ returns-clause-fetches c = fetches
 
 pub returns-clause-restarts : goal.returns-clause-restarts
 returns-clause-restarts c = serves-on
+
+pub returns-clause-ends : goal.returns-clause-ends
+returns-clause-ends c = can-end

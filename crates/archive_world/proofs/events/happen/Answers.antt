@@ -13,7 +13,7 @@ returns-in-Begin g c =
     let operation = operation_of c.in-Begin.op.kind in
     comes-at (event_of c.args.event.now) (begin client operation) c.begin.result reported reported w c.begin.new.machine (ap event_of c.in-Begin.is)
     (begin-comes w c.begin.new.machine client operation c.begin.result reported c.begin.ensures.made c.begin.ensures.may c.begin.ensures.own
-    c.begin.ensures.bad c.begin.ensures.reused c.begin.ensures.used c.begin.ensures.loads)
+    c.begin.ensures.bad c.begin.ensures.reused c.begin.ensures.used c.begin.ensures.keeps c.begin.ensures.loads)
 
 pub returns-in-ClientTimeout : goal.returns-in-ClientTimeout
 returns-in-ClientTimeout g c =
@@ -23,7 +23,7 @@ returns-in-ClientTimeout g c =
     let client = c.in-ClientTimeout.client in
     comes-at (event_of c.args.event.now) (client_times_out client) c.client_timeout.result reported reported w v (ap event_of c.in-ClientTimeout.is)
     (wait-comes w v client c.client_timeout.result reported c.client_timeout.ensures.made c.client_timeout.ensures.may
-    c.client_timeout.ensures.bad c.client_timeout.ensures.own c.client_timeout.ensures.loads)
+    c.client_timeout.ensures.bad c.client_timeout.ensures.own c.client_timeout.ensures.keeps c.client_timeout.ensures.loads)
 
 pub returns-in-ServerTimeout : goal.returns-in-ServerTimeout
 returns-in-ServerTimeout g c =
@@ -41,7 +41,7 @@ returns-in-Stray g c =
     let v = c.stray.new.machine in
     comes-at (event_of c.args.event.now) (stray c.in-Stray.d) c.stray.result reported reported w v (ap event_of c.in-Stray.is)
     (stray-comes w v c.in-Stray.d c.stray.result reported c.stray.ensures.made c.stray.ensures.may c.stray.ensures.bad c.stray.ensures.own
-    c.stray.ensures.loads)
+    c.stray.ensures.keeps c.stray.ensures.loads)
 
 pub returns-in-Ok : goal.returns-in-Ok
 returns-in-Ok g c =
@@ -50,4 +50,4 @@ returns-in-Ok g c =
     let w = c.args.machine.now in
     let v = c.restart.new.machine in
     comes-at (event_of c.args.event.now) restart (Ok tt) reported now w v (ap event_of c.in-Restart.is)
-    (restart-comes w v reported now c.restart.ensures.calls c.in-Ok.ensures.request c.in-Ok.ensures.made)
+    (restart-comes w v reported now c.restart.ensures.calls c.in-Ok.ensures.home c.in-Ok.ensures.request c.in-Ok.ensures.made)

@@ -7,6 +7,7 @@ pub loop-i-init : goal.loop-i-init
 loop-i-init g c =
     record {
       within = omega arith;
+      home = ap (λ (w : World). w.home) c.requires.start;
       request = ap (λ (w : World). w.server.request) c.requires.start;
       so_far = λ ready. happened-start (g.K.Keeper.calls c.args.keeper.now) c.args.machine.now c.requires.start;
     }
@@ -22,7 +23,8 @@ loop-i-preserved g c =
     let made = c.in-Ok.ensures in
     record {
       within = omega arith;
-      request = made.0 ∙ c.loop-i.invariant.request;
+      home = made.0.0 ∙ c.loop-i.invariant.home;
+      request = made.0.1 ∙ c.loop-i.invariant.request;
       so_far = one-more c.args.events.now c.loop-i.i c.index-events-i.result c.loop-i-test.true c.index-events-i.is
           (g.K.Keeper.calls c.args.keeper.now) (g.K.Keeper.calls c.loop-i.keeper) (g.K.Keeper.calls c.happen.new.keeper) c.loop-i.machine
           c.happen.new.machine c.loop-i.invariant.so_far made;

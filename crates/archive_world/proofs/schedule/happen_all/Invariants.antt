@@ -8,6 +8,7 @@ use Rattle.archive_world.proofs.schedule.happen_all.Given as goal
 abbrev pub invariant-loop-i : goal.invariant-loop-i
 invariant-loop-i g l = record {
   within : l.i ≤ length l.events;
+  home : l.machine.home ≡ server_endpoint;
   request : l.machine.server.request ≡ server_endpoint.port;
   so_far : IsReady (g.K.Keeper.calls l.initial.keeper) (events_of l.events) →
       HasHappened (events_of (take l.i l.events)) (g.K.Keeper.calls l.initial.keeper) (g.K.Keeper.calls l.keeper) l.machine;

@@ -1,14 +1,20 @@
 use Rattle.std.proofs.Common.{◌≡◌, length, arith}
 use Rattle.std.proofs.lemmas.List.{take_all}
-use Rattle.archive_world.specs.declared.world_fault.WorldFault.TheVariants.{BadEvent, PortReused, NotLoaded, Memory}
+use Rattle.archive_world.specs.declared.world_fault.WorldFault.TheVariants.{BadEvent, PortReused, NotKept, NotLoaded, Memory}
 use Rattle.archive_world.specs.View.{events_of}
-use Rattle.archive_world.proofs.Replaying.{ran-to, stopped-after, bad-by, reused-by, not_loaded-by, stopped-by}
+use Rattle.archive_world.proofs.Replaying.{ran-to, stopped-after, bad-by, reused-by, not_kept-by, not_loaded-by, stopped-by}
 use Rattle.archive_world.proofs.schedule.replay.Goals as goal
 
 pub returns-in-Err-clause-bad : goal.returns-in-Err-clause-bad
 returns-in-Err-clause-bad g c = λ i is.
     let same : c.in-Err.fault ≡ BadEvent i = cc in
     bad-by (events_of c.args.events.now) (g.K.Keeper.calls c.args.keeper.now) (g.K.Keeper.calls c.happen_all.new.keeper)
+    c.happen_all.new.machine c.in-Err.fault c.in-Err.ensures i same
+
+pub returns-in-Err-clause-not_kept : goal.returns-in-Err-clause-not_kept
+returns-in-Err-clause-not_kept g c = λ i is.
+    let same : c.in-Err.fault ≡ NotKept i = cc in
+    not_kept-by (events_of c.args.events.now) (g.K.Keeper.calls c.args.keeper.now) (g.K.Keeper.calls c.happen_all.new.keeper)
     c.happen_all.new.machine c.in-Err.fault c.in-Err.ensures i same
 
 pub returns-in-Err-clause-not_loaded : goal.returns-in-Err-clause-not_loaded

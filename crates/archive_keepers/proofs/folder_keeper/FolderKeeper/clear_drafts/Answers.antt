@@ -1,9 +1,8 @@
 use Rattle.std.proofs.Common.{sym, subst}
-use Rattle.archive_keepers.specs.declared.file_name.FileName.TheVariants.{Kept}
-use Rattle.archive_keepers.specs.Replacing.{Stays}
+use Rattle.folders.specs.Folder.{Stays}
+use Rattle.archive_keepers.specs.Names.{kept_name}
 use Rattle.archive_keepers.proofs.folder_keeper.FolderKeeper.clear_drafts.Goals as goal
 
 pub returns-in-Err-clause-kept : goal.returns-in-Err-clause-kept
 returns-in-Err-clause-kept g c = λ modelled rules.
-    let F = g.F.Folder in
-    subst (λ f. Stays F.reads F.holds F.leaves F.moment F.left_since c.args.self.now.folder f (Kept rules)) (sym c.count_failure.ensures.folder) (c.clear_drafts.ensures.kept modelled rules)
+    subst (λ f. Stays g.F.Folder.model c.args.self.now.folder f (kept_name rules)) (sym c.note_call.ensures.folder) (c.clear_drafts.ensures.kept modelled rules)

@@ -1,0 +1,47 @@
+//! Why a call of a folder failed, and why a file was not published.
+
+use thiserror::Error;
+
+/// Why a call of a folder failed.
+#[derive(Clone, Copy, Debug, PartialEq, Eq, Error)]
+pub enum CallFault {
+    /// The device failed.
+    #[error("Device")]
+    Device,
+    /// Out of memory.
+    #[error("Memory")]
+    Memory,
+}
+
+/// A call before the rename.
+#[derive(Clone, Copy, Debug, PartialEq, Eq)]
+pub enum FolderCall {
+    /// An old draft was to be removed.
+    Remove,
+    /// The draft was to be created.
+    Create,
+    /// It was to be written.
+    Write,
+    /// It was to be synced.
+    Sync,
+}
+
+/// A call that failed, and why.
+#[derive(Clone, Copy, Debug, PartialEq, Eq)]
+pub struct CallFailed {
+    /// The call.
+    pub call: FolderCall,
+    /// Why it failed.
+    pub fault: CallFault,
+}
+
+/// Why a file was not published.
+#[derive(Clone, Copy, Debug, PartialEq, Eq)]
+pub enum PublishFault {
+    /// The folder has what it had before.
+    NotKept(CallFailed),
+    /// The rename failed: the folder may have what it had before, or the new file.
+    Rename,
+    /// The folder was not synced: it has the new file, but after a crash it may have what it had before.
+    SyncFolder,
+}
