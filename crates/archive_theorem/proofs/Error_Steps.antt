@@ -154,7 +154,8 @@ module _ (w v : World) (more : Extends w.past v.past) (request : v.server.reques
 client_sends : (w : World) (e : Endpoint) (out : Option Out) → e.host ≢ w.home.host → (d : Datagram) → Has (net_with e.host w.net out) d →
     Has w.net d ⊎ (d.source.host ≢ w.home.host)
 client_sends w e out away d has =
-    either (λ old. old) (λ (new : IsSent e.host out d). λ ours. away (ap (λ (x : Datagram). x.source.host) (sym new.same) ∙ ours)) (net_added e.host w.net out d has)
+    either (λ old. old) (λ (new : IsSent e.host out d). λ ours. away (ap (λ (x : Datagram). x.source.host) (sym new.same) ∙ ours))
+    (net_added e.host w.net out d has)
 
 -- ---- a request
 
@@ -180,7 +181,8 @@ module _ (w : World) (spare : ℕ) (grant : Grant) (d : Datagram) (other : spare
       })
       (answered.stays port t is)
 
-  opened_added : (added : Bool) (o x : Opening) → Has (opened_with added o w.opened) x → o.port ≢ w.server.request → Has w.opened x ⊎ (x.port ≢ w.server.request)
+  opened_added : (added : Bool) (o x : Opening) → Has (opened_with added o w.opened) x → o.port ≢ w.server.request →
+      Has w.opened x ⊎ (x.port ≢ w.server.request)
   opened_added true o x has apart =
       either (λ old. old) (λ (new : x ≡ o). λ same. apart (ap (λ (y : Opening). y.port) (sym new) ∙ same)) (Has-push w.opened o x has)
   opened_added false o x has apart = inl has

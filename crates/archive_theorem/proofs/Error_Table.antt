@@ -185,7 +185,8 @@ module _ (s : Table) (apart : IsApart at_port exact_port s.live) where
           takes = tt;
         }
 
-    takes_at : (maps : Maps) (file : List ℕ) (r : Receiver) (out : Option (List ℕ)) → IfSome out IsHarmless → AnswersAt port s (takes maps port t.peer file r out s)
+    takes_at : (maps : Maps) (file : List ℕ) (r : Receiver) (out : Option (List ℕ)) → IfSome out IsHarmless →
+        AnswersAt port s (takes maps port t.peer file r out s)
     takes_at maps file r out sends =
         let next : Transfer = record { peer = t.peer; end = receiving r } in
         record {
@@ -261,7 +262,8 @@ module _ (s : Table) (apart : IsApart at_port exact_port s.live) where
 
     -- ---- a time-out
 
-    receiver_at : (state : RecvState) (a : RecvAnswer) → IfSome a.out (λ p. p ≡ ack a.receiver.count) → AnswersAt port s (receiving_goes_on state port t.peer a s)
+    receiver_at : (state : RecvState) (a : RecvAnswer) → IfSome a.out (λ p. p ≡ ack a.receiver.count) →
+        AnswersAt port s (receiving_goes_on state port t.peer a s)
     receiver_at recv.Running a sends = goes_on_at (receiving a.receiver) (dgram_of a.out) (ack_out a.receiver.count a.out sends)
     receiver_at recv.Complete a sends = goes_on_at (receiving a.receiver) (dgram_of a.out) (ack_out a.receiver.count a.out sends)
     receiver_at recv.TimedOut a sends = closes_at (dgram_of a.out) (ack_out a.receiver.count a.out sends)
@@ -288,7 +290,8 @@ module _ (s : Table) (apart : IsApart at_port exact_port s.live) where
       other_at (ack n) = replies_at port from
       other_at (error code text) = stays_at port
 
-      packet_at : (p : Packet) → decode_bytes bytes ≡ Ok p → (same : Bool) → AnswersAt port s (transfer_by_input (input_of_packet same p) grant maps port from t s)
+      packet_at : (p : Packet) → decode_bytes bytes ≡ Ok p → (same : Bool) →
+          AnswersAt port s (transfer_by_input (input_of_packet same p) grant maps port from t s)
       packet_at p reads true = peer_at p reads
       packet_at p reads false = other_at p
 
@@ -303,7 +306,8 @@ module _ (s : Table) (apart : IsApart at_port exact_port s.live) where
   found_at (Some t) port is grant maps from bytes = decoded_at port t is grant maps from bytes (decode_bytes bytes) refl
 
   -- a datagram at a port
-  pub datagram-answers : (grant : Grant) (maps : Maps) (port : ℕ) (from : Endpoint) (bytes : List ℕ) → AnswersAt port s (table_datagram grant maps port from bytes s)
+  pub datagram-answers : (grant : Grant) (maps : Maps) (port : ℕ) (from : Endpoint) (bytes : List ℕ) →
+      AnswersAt port s (table_datagram grant maps port from bytes s)
   datagram-answers grant maps port from bytes = found_at (transfer_at port s) port refl grant maps from bytes
 
   waits_found : (found : Option Transfer) (port : ℕ) → transfer_at port s ≡ found → AnswersAt port s (timeout_at found port s)

@@ -63,4 +63,5 @@ pub mod Patience
 pub mod Error_Client
 pub mod Error_Claims
 pub mod Error_Steps
+pub mod Error_Moves
 pub mod Error_Runs

@@ -46,7 +46,9 @@ none_some o t none is = let both : None ≡ Some t = sym none ∙ is in absurd c
 
 -- the same transfer
 pub not_less : (o : Option Transfer) (t u : Transfer) → o ≡ Some t → o ≡ Some u → end_waited t.end ≤ end_waited u.end
-not_less o t u is also = let same : end_waited t.end ≡ end_waited u.end = ap (λ (x : Transfer). end_waited x.end) (same_some o t u is also) in omega (arith, same)
+not_less o t u is also =
+    let same : end_waited t.end ≡ end_waited u.end = ap (λ (x : Transfer). end_waited x.end) (same_some o t u is also) in
+    omega (arith, same)
 
 same_waited : (o : Option Transfer) (t u : Transfer) → o ≡ Some t → o ≡ Some u → end_waited t.end + 0 ≤ end_waited u.end
 same_waited o t u is also = let less = not_less o t u is also in omega (arith, less)
@@ -62,14 +64,16 @@ module _ (s : Table) (apart : IsApart at_port exact_port s.live) where
 
   module _ (port : ℕ) (t : Transfer) (is : transfer_at port s ≡ Some t) (more : ℕ) where
     -- the transfer at the port is written
-    written_raised : (next : Transfer) (a : TableAnswer) → a.server.live ≡ set_value (at_port port) s.live next → end_waited t.end + more ≤ end_waited next.end →
+    written_raised : (next : Transfer) (a : TableAnswer) → a.server.live ≡ set_value (at_port port) s.live next →
+        end_waited t.end + more ≤ end_waited next.end →
         Raises more port s a
     written_raised next a live enough =
         let found : transfer_at port a.server ≡ Some next = ap (lookup (at_port port)) live ∙ lookup-written at_port exact_port s.live port t next is in
         record {
           here = λ o u old new.
               let was : end_waited o.end ≡ end_waited t.end = ap (λ (x : Transfer). end_waited x.end) (same_some (transfer_at port s) o t old is) in
-              let now : end_waited u.end ≡ end_waited next.end = ap (λ (x : Transfer). end_waited x.end) (same_some (transfer_at port a.server) u next new found) in
+              let now : end_waited u.end ≡ end_waited next.end =
+              ap (λ (x : Transfer). end_waited x.end) (same_some (transfer_at port a.server) u next new found) in
               omega (arith, was, now, enough);
           rest = λ q o u old new.
               elim (lookup-set at_port exact_port s.live port next q u (ap (lookup (at_port q)) (sym live) ∙ new)) [
@@ -102,7 +106,8 @@ module _ (s : Table) (apart : IsApart at_port exact_port s.live) where
     sender_raised send.Finished a enough = closes_raised (dgram_of a.out)
     sender_raised send.TimedOut a enough = closes_raised (dgram_of a.out)
 
-    receiver_raised : (state : RecvState) (a : RecvAnswer) → (state ≡ recv.Running ⊎ (state ≡ recv.Complete) → end_waited t.end + more ≤ receiver_waited a.receiver) →
+    receiver_raised : (state : RecvState) (a : RecvAnswer) →
+        (state ≡ recv.Running ⊎ (state ≡ recv.Complete) → end_waited t.end + more ≤ receiver_waited a.receiver) →
         Raises more port s (receiving_goes_on state port t.peer a s)
     receiver_raised recv.Running a enough = goes_on_raised (receiving a.receiver) (dgram_of a.out) (enough (inl refl))
     receiver_raised recv.Complete a enough = goes_on_raised (receiving a.receiver) (dgram_of a.out) (enough (inr refl))
@@ -120,11 +125,15 @@ module _ (s : Table) (apart : IsApart at_port exact_port s.live) where
   goes_on_waited : (r : Receiver) → ((receiver_timeout r).receiver.state ≡ recv.Running) ⊎ ((receiver_timeout r).receiver.state ≡ recv.Complete) →
       receiver_waited (receiver_timeout r).receiver ≡ receiver_waited r + 1
   goes_on_waited r (inl is) =
-      receiver_timeout-waited r (λ e. let both : recv.Running ≡ recv.TimedOut = sym is ∙ e in cc)
-      (λ e. let both : recv.Running ≡ recv.Over = sym is ∙ e in cc)
+      receiver_timeout-waited r (
+        (λ e. let both : recv.Running ≡ recv.TimedOut = sym is ∙ e in cc),
+        (λ e. let both : recv.Running ≡ recv.Over = sym is ∙ e in cc),
+      )
   goes_on_waited r (inr is) =
-      receiver_timeout-waited r (λ e. let both : recv.Complete ≡ recv.TimedOut = sym is ∙ e in cc)
-      (λ e. let both : recv.Complete ≡ recv.Over = sym is ∙ e in cc)
+      receiver_timeout-waited r (
+        (λ e. let both : recv.Complete ≡ recv.TimedOut = sym is ∙ e in cc),
+        (λ e. let both : recv.Complete ≡ recv.Over = sym is ∙ e in cc),
+      )
 
   module _ (port : ℕ) (t : Transfer) (is : transfer_at port s ≡ Some t) where
     come_raised : (grant : Grant) (maps : Maps) (file : List ℕ) (r : Receiver) (out : Option (List ℕ)) → end_waited t.end + 0 ≤ receiver_waited r →
@@ -161,7 +170,8 @@ module _ (s : Table) (apart : IsApart at_port exact_port s.live) where
         sender_raised port t is 0 (sender_ack n e).sender.state (sender_ack n e) (λ running. omega (arith, was, more))
     ack_raised (receiving r) same bounds n = stays_raised port s refl (table_stays s) refl
 
-    input_raised : (x : Input) → HasBounds t.end → (grant : Grant) (maps : Maps) (from : Endpoint) → Raises 0 port s (transfer_by_input x grant maps port from t s)
+    input_raised : (x : Input) → HasBounds t.end → (grant : Grant) (maps : Maps) (from : Endpoint) →
+        Raises 0 port s (transfer_by_input x grant maps port from t s)
     input_raised nothing bounds grant maps from = stays_raised port s refl (table_stays s) refl
     input_raised stray bounds grant maps from = stays_raised port s refl _ refl
     input_raised (refusal code) bounds grant maps from = closes_raised port t is 0 None
@@ -188,7 +198,8 @@ module _ (s : Table) (apart : IsApart at_port exact_port s.live) where
     datagram_raised (Some t) port is grant maps from bytes = input_raised port t is (transfer_input t.peer from bytes) (bounds port t is) grant maps from
 
     -- a datagram at a port
-    pub datagram-raises : (grant : Grant) (maps : Maps) (port : ℕ) (from : Endpoint) (bytes : List ℕ) → Raises 0 port s (table_datagram grant maps port from bytes s)
+    pub datagram-raises : (grant : Grant) (maps : Maps) (port : ℕ) (from : Endpoint) (bytes : List ℕ) →
+        Raises 0 port s (table_datagram grant maps port from bytes s)
     datagram-raises grant maps port from bytes = datagram_raised (transfer_at port s) port refl grant maps from bytes
 
   waits_raised : (found : Option Transfer) (port : ℕ) → transfer_at port s ≡ found → Raises 1 port s (timeout_at found port s)
