@@ -65,3 +65,4 @@ pub mod Error_Claims
 pub mod Error_Steps
 pub mod Error_Moves
 pub mod Error_Runs
+pub mod Error_Sampling
