@@ -119,8 +119,9 @@ pub fn error_runs()
     ensures stale { PutFails stale_put (Refused 5) put_taken [] }
 {}
 
-/// No place of the server is held without blocks from the peer. In any stretch of a run over which one transfer is at a port, the
-/// port times out fewer than `MISSES` times, and `MISSES` times for each block of the transfer that is received or acknowledged there.
+/// No place of the server is held without its peer's datagrams. In any stretch of a run over which one transfer is at a port, the
+/// port times out fewer than `MISSES` times, and `MISSES` times for each block that is received or acknowledged there meanwhile; and
+/// each such block takes a datagram from the peer.
 pub fn places_law()
     ensures { (o : Origin) (r : RunFrom o) (before after : List WorldStep) → r.steps ≡ before ++ after → (port : ℕ) →
         IsHeld port after (run_from before (first_world o)) → HoldsByBlocks port (run_from before (first_world o)) after }
