@@ -24,7 +24,8 @@ use Rattle.archive_theorem.proofs.Claim_Invariant.{AreBest, Holds, exact_port, f
 use Rattle.archive_theorem.proofs.Keyed as keyed
 use Rattle.archive_theorem.proofs.Server_Merges.{best-taken}
 use Rattle.archive_theorem.proofs.Event_Happens.{last-holds}
-use Rattle.archive_theorem.proofs.Headline_Collections.{best-collected, run_from-best}
+use Rattle.tws_best.proofs.Collections.{best-collected}
+use Rattle.archive_theorem.proofs.Headline_Collections.{run_from-best}
 use Rattle.archive_theorem.proofs.Keeper_Runs.{own-ruleset}
 use Rattle.archive_theorem.proofs.Trace_Runs.{trace-makes, trace_merged, trace-clients, trace-headline}
 use Rattle.archive_running.specs.Members.{sent_in_calls, come_to, does, received_members, quiet_members, client_members, arrived_members, goes_members, round_members}

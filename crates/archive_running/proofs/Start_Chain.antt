@@ -18,7 +18,7 @@ use Rattle.archive_theorem.proofs.Headline_Begun.{began-by}
 use Rattle.archive_theorem.proofs.Keeper_Holds.{holds-promised}
 use Rattle.archive_theorem.proofs.Trace_Runs.{trace-makes}
 use Rattle.archive_theorem.proofs.Server_Merges.{best-taken}
-use Rattle.archive_theorem.proofs.Headline_Collections.{best-collected}
+use Rattle.tws_best.proofs.Collections.{best-collected}
 use Rattle.archive_theorem.proofs.Keeper_Runs.{own-ruleset}
 use Rattle.archive_theorem.proofs.Keeper_Loads.{step-loads_as}
 use Rattle.tws_file.specs.declared.«ruleset».Ruleset.TheVariants.{Lynx, Ms}

@@ -127,8 +127,8 @@ module _ (w v : World) (h : Holds w) (k : Holds v) (tells : Tells w) (c : Change
       own.openings position (length w.opened) closed.opening new.opening still last closed.peer new.peer_is (closed.port_is ∙ sym new.port_is) in
       absurd (omega arith)
 
-  gone_still : (e : Endpoint) (port : ℕ) → IsOwn v e → WasClosed w e port → (t : Transfer) → t.peer ≡ e → IsWith w.server port t.peer ⊎ Opens w v port t.peer →
-      ⊥
+  gone_still : (e : Endpoint) (port : ℕ) → IsOwn v e → WasClosed w e port → (t : Transfer) → t.peer ≡ e →
+      IsWith w.server port t.peer ⊎ Opens w v port t.peer → ⊥
   gone_still e port own closed t same (inl old) = closed.gone old.transfer old.is (old.same ∙ same)
   gone_still e port own closed t same (inr new) = opens_twice e port own closed (subst (Opens w v port) same new)
 
@@ -211,8 +211,8 @@ module _ (w v : World) (h : Holds w) (k : Holds v) (tells : Tells w) (c : Change
 
     module _ (port : ℕ) (closes : ClosesFor w v e port) where
       -- it has no file that was taken
-      come_untaken : {P : Type 0} (file : List ℕ) (r : Receiver) (state : RecvState) → IsEnded state → HasCome w.past e file r state → (text : List ℕ) →
-          r.file ≡ Some text → P
+      come_untaken : {P : Type 0} (file : List ℕ) (r : Receiver) (state : RecvState) → IsEnded state → HasCome w.past e file r state →
+          (text : List ℕ) → r.file ≡ Some text → P
       come_untaken file r recv.Running ended come text is = absurd ended
       come_untaken file r recv.Complete ended come text is = let both : None ≡ Some text = sym come.1 ∙ is in absurd cc
       come_untaken file r recv.TimedOut ended come text is = absurd ended

@@ -124,8 +124,8 @@ module _ (code : ℕ) (from : Endpoint) (bytes : List ℕ) (port : ℕ) (server 
   get_failed : (first : Bool) (verdict : Verdict) (to n : ℕ) (body : List ℕ) (rules : Ruleset) (misses : ℕ) →
       HasOrFails code from bytes (at_phase (asking (get rules) misses)) (get_answered first verdict to n body (at_phase (asking (get rules) misses)))
   get_failed true verdict to n body rules misses is =
-      took_failed to (receiver_data verdict n body receiver_start).receiver (receiver_data verdict n body receiver_start).result
-      (at_phase (asking (get rules) misses)) code is
+      let a = receiver_data verdict n body receiver_start in
+      took_failed to a.receiver a.result (at_phase (asking (get rules) misses)) code is
   get_failed false verdict to n body rules misses is = inl is
 
   -- the ERROR fails the client
@@ -206,7 +206,8 @@ get_waits_failed recv.Over peer a c code is = absurd cc
 
 waits_failed : (code port : ℕ) (server : Endpoint) (phase : Phase) → (client_timeout (client_at port server phase)).client.phase ≡ failed (cause.Refused code) →
     phase ≡ failed (cause.Refused code)
-waits_failed code port server (asking operation misses) is = asks_failed (misses + 1 == MISSES) operation misses (client_at port server (asking operation misses)) code is
+waits_failed code port server (asking operation misses) is =
+    asks_failed (misses + 1 == MISSES) operation misses (client_at port server (asking operation misses)) code is
 waits_failed code port server (sending peer s) is =
     put_waits_failed (sender_timeout s).sender.state peer (sender_timeout s) (client_at port server (sending peer s)) code is
 waits_failed code port server (receiving peer r) is =
@@ -396,7 +397,8 @@ get_waits_own recv.Over peer a c = sends_own peer a.out c
 waits_own : (port : ℕ) (server : Endpoint) (phase : Phase) → IfSome (client_timeout (client_at port server phase)).out (λ o. o.from_port ≡ port)
 waits_own port server (asking operation misses) = asks_own (misses + 1 == MISSES) operation misses (client_at port server (asking operation misses))
 waits_own port server (sending peer s) = put_waits_own (sender_timeout s).sender.state peer (sender_timeout s) (client_at port server (sending peer s))
-waits_own port server (receiving peer r) = get_waits_own (receiver_timeout r).receiver.state peer (receiver_timeout r) (client_at port server (receiving peer r))
+waits_own port server (receiving peer r) =
+    get_waits_own (receiver_timeout r).receiver.state peer (receiver_timeout r) (client_at port server (receiving peer r))
 waits_own port server (failed why) = tt
 
 pub timeout-own : (c : Client) → IfSome (client_timeout c).out (λ o. o.from_port ≡ c.port)

@@ -63,4 +63,6 @@ pub mod Patience_Ports
 pub mod Error_Client
 pub mod Error_Claims
 pub mod Error_Steps
+pub mod Error_Moves
 pub mod Error_Runs
+pub mod Error_Sampling
