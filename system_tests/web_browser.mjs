@@ -79,8 +79,11 @@ async function alone() {
   check("level by level", totals.startsWith(`Lynx: ${solved} of ${count("levels")} solved`));
   await tab.press("Remove");
   check("removed", await tab.until("document.querySelectorAll('#files section').length === 4"));
+  await tab.run(`new MutationObserver(() => { window.hasWorked ||= !document.getElementById("working").hidden; })
+    .observe(document.getElementById("working"), { attributes: true })`);
   await tab.drop([at("large.tws")]);
   check("a large file", await tab.until(`${said}.startsWith("large.tws: 20000 solutions")`, 120));
+  check("it was shown that the work goes on", await tab.run("window.hasWorked && document.getElementById('working').hidden"));
   check("the first of its rows", (await tab.run(texts("p"))).includes("The first 500 of 20000 rows."));
   check("no problems", tab.problems().length === 0 || (console.log(tab.problems()), false));
 }
@@ -98,6 +101,14 @@ async function looks(tab) {
   await tab.resize(1100, 1000, "light");
 }
 
+/** The page where the module cannot be compiled, as in a browser without 64-bit memories. */
+async function tooOld() {
+  const old = fs.readFileSync(page, "utf8").replace(/(id="module">)[^<]*/, "$1AGFzbQEAAAAFAwFAAQ==");
+  fs.writeFileSync(at("old.html"), old);
+  const tab = await openPage(browser, `file://${path.resolve(at("old.html"))}`);
+  check("an old browser is told", await tab.until(`document.body && ${said}.startsWith("This browser cannot run the page: ")`));
+}
+
 /** The page in a folder that an archive publishes. */
 async function published() {
   const tab = await openPage(browser, url);
@@ -113,6 +124,11 @@ async function published() {
   check("no problems there", tab.problems().length === 0 || (console.log(tab.problems()), false));
 }
 
-await (url ? published() : alone());
+if (url) {
+  await published();
+} else {
+  await alone();
+  await tooOld();
+}
 await browser.close();
 finish();
