@@ -1,7 +1,7 @@
 #!/usr/bin/env python3
 """Checks the documents: `names`, that what they cite in backticks and link to is in the tree; `callers`, that the
-callers that they quote are those of the crate `uses`; `sessions`, that a shell prints what they say. The arguments say
-which of these, by default all. The last line is 'N passed, M failed, K skipped': a session of a program that is not built
+callers that they quote are those of the crate `uses`; `heads`, that no two files of proofs begin with the same comment;
+`sessions`, that a shell prints what they say. The arguments say which of these, by default all. The last line is 'N passed, M failed, K skipped': a session of a program that is not built
 is skipped."""
 import functools
 import os
@@ -28,6 +28,9 @@ FOREIGN_FILES = {
     "20261127T091501.004Z-127.0.0.1-5000-lynx.tws", "20261127T091501.004Z-203.0.113.7-5000-lynx.tws",
 }
 
+# What the scripts at the top make.
+MADE_FILES = {"dist/tws.html"}
+
 # Options of other programs, and of `check`.
 FOREIGN_OPTIONS = set("""
 --quick --backend --branch-sim --dump-instr --fix-imports --incremental --jobs --only --option --test --tftp-no-options --tool
@@ -36,8 +39,10 @@ FOREIGN_OPTIONS = set("""
 # The programs that sessions run, each with what the commands that need it have in them.
 PROGRAMS = {"tws": r"\btws ", "replay_schedule": r"\./replay_schedule|draw\.py"}
 
-EXTENSIONS = (".antt", ".bash", ".c", ".edit", ".h", ".md", ".py", ".rt", ".tws", ".txt")
+EXTENSIONS = (".antt", ".bash", ".c", ".cgi", ".css", ".edit", ".h", ".html", ".js", ".md", ".py", ".rt", ".service", ".tws", ".txt")
 NAME = r"[A-Za-z_][\w-]*"
+# What a script of the page defines, an element of the page, and a function of a shell script.
+PAGE_NAME = re.compile(r"^(?:async )?(?:function|const|let|class) (\w+)|\bid=\"([\w-]+)\"|^(\w+)\(\) \{", re.M)
 # A definition, with or without its parameters, a constructor or a field.
 DEFINITION = re.compile(r"\s*(?:(?:pub|abbrev|record|data) )*([^\s:({=-][^\s:({]*)(?: [^:=]*)? (?::|=)(?: |$)")
 
@@ -89,6 +94,8 @@ def read_rust(crate, path):
             crate.member(owner, match.group(1))
         elif match := re.match(r"\s*(?:pub(?:\(crate\))? )?(?:const|type) (\w+)", line):
             crate.names.add(match.group(1))
+        elif path.stem == "keyword" and (match := re.search(r'=> b"([\w-]+)",', line)):
+            crate.names.add(match.group(1))
         elif owner and (match := re.match(r"    (?:pub(?:\(crate\))? )?(\w+)(?:,$|\(|: | \{)", line)):
             crate.member(owner, match.group(1))
 
@@ -111,6 +118,17 @@ def crates():
         for part in ("specs", "proofs"):
             for path in (folder / part).rglob("*.antt"):
                 read_definitions(crate, path)
+    return found
+
+
+@functools.cache
+def page():
+    """What the page for browsers and the files in `contrib` define, as one crate."""
+    found = Crate()
+    for path in [*Path("page").glob("*.js"), *Path("page").glob("*.html"), *Path("contrib").rglob("*")]:
+        if path.is_file():
+            for names in PAGE_NAME.findall(path.read_text()):
+                found.names.update(name for name in names if name)
     return found
 
 
@@ -162,10 +180,10 @@ class Names:
     def __init__(self, document):
         folder = document.parts[1] if document.parts[0] == "crates" and len(document.parts) > 2 else None
         self.folder = document.parent
-        self.crates = [crates()[name] for name in (below(folder) if folder else crates())]
+        self.crates = [crates()[name] for name in below(folder)] if folder else [*crates().values(), page()]
 
     def is_file(self, cited):
-        if cited in FOREIGN_FILES:
+        if cited in FOREIGN_FILES | MADE_FILES:
             return True
         cited = cited.split("*")[0].rstrip("/") if "*" in cited else cited.rstrip("/")
         ends = {f"{cited}{extension}" for extension in ("", ".rt", ".antt")}
@@ -333,6 +351,23 @@ def check_callers():
     return passed, failed, 0
 
 
+def check_heads():
+    """No two files of proofs of the crates, those in folders left out, begin with the same comment line."""
+    passed = failed = 0
+    first = {}
+    for path in sorted(Path("crates").glob("*/proofs/*.antt")):
+        head = path.read_text().partition("\n")[0].strip()
+        if not head.startswith("--"):
+            continue
+        if head in first:
+            failed += 1
+            print(f"{path}: begins as {first[head]} does: {head}")
+        else:
+            passed += 1
+            first[head] = path
+    return passed, failed, 0
+
+
 def built(program):
     return Path(f"crates/{program}/out/{program}")
 
@@ -426,7 +461,7 @@ def check_sessions():
 
 
 def main():
-    parts = {"names": check_names, "callers": check_callers, "sessions": check_sessions}
+    parts = {"names": check_names, "callers": check_callers, "heads": check_heads, "sessions": check_sessions}
     counts = [parts[name]() for name in sys.argv[1:] or parts]
     passed, failed, skipped = (sum(column) for column in zip(*counts))
     print(f"{passed} passed, {failed} failed, {skipped} skipped")

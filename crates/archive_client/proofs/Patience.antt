@@ -117,11 +117,15 @@ put_waits_on send.TimedOut peer s c is running = cc
 get_waits_on : (state : RecvState) (peer : ℕ) (r : Receiver) (c : Client) → (receiver_timeout r).receiver.state ≡ state →
     CountsOne (receiving peer r) (get_waited state peer (receiver_timeout r) c)
 get_waits_on recv.Running peer r c is running =
-    receiver_timeout-waited r (λ e. let both : recv.Running ≡ recv.TimedOut = sym is ∙ e in cc)
-    (λ e. let both : recv.Running ≡ recv.Over = sym is ∙ e in cc)
+    receiver_timeout-waited r (
+      (λ e. let both : recv.Running ≡ recv.TimedOut = sym is ∙ e in cc),
+      (λ e. let both : recv.Running ≡ recv.Over = sym is ∙ e in cc),
+    )
 get_waits_on recv.Complete peer r c is running =
-    receiver_timeout-waited r (λ e. let both : recv.Complete ≡ recv.TimedOut = sym is ∙ e in cc)
-    (λ e. let both : recv.Complete ≡ recv.Over = sym is ∙ e in cc)
+    receiver_timeout-waited r (
+      (λ e. let both : recv.Complete ≡ recv.TimedOut = sym is ∙ e in cc),
+      (λ e. let both : recv.Complete ≡ recv.Over = sym is ∙ e in cc),
+    )
 get_waits_on recv.TimedOut peer r c is running = cc
 get_waits_on recv.Over peer r c is running =
     let over : is_recv_over (receiver_timeout r).receiver.state ≡ true = ap is_recv_over is in
@@ -249,7 +253,8 @@ first_for true operation verdict port n body c rules is before =
     took_for operation port a.receiver a.result c rules is
 first_for false operation verdict port n body c rules is before = before
 
-refused_for : (state : RecvState) (operation : Operation) (code : ℕ) (c : Client) → IsFor operation c.phase → IsFor operation (get_refused state code c).client.phase
+refused_for : (state : RecvState) (operation : Operation) (code : ℕ) (c : Client) → IsFor operation c.phase →
+    IsFor operation (get_refused state code c).client.phase
 refused_for recv.Running operation code c before = tt
 refused_for recv.Complete operation code c before = before
 refused_for recv.TimedOut operation code c before = before
@@ -288,7 +293,8 @@ unless_for true operation verdict from bytes c is = is
 unless_for false operation verdict from bytes c is =
     input_for operation c.port c.server c.phase (client_input c.server.host (phase_peer c.phase) from bytes) verdict from.port is
 
-asks_for : (last : Bool) (operation asked : Operation) (misses : ℕ) (c : Client) → asked ≡ operation → IsFor operation (asks_again last asked misses c).client.phase
+asks_for : (last : Bool) (operation asked : Operation) (misses : ℕ) (c : Client) → asked ≡ operation →
+    IsFor operation (asks_again last asked misses c).client.phase
 asks_for true operation asked misses c is = tt
 asks_for false operation asked misses c is = is
 
@@ -332,7 +338,8 @@ few_blocks operation (receiving peer r) is fits =
 few_blocks operation (failed why) is fits = omega arith
 
 -- by whether it is over
-ends_by : (operation : Operation) (events : List ClientEvent) (c : Client) → IsPatient c events → phase_blocks (client_run events c).phase ≤ most_blocks operation →
+ends_by : (operation : Operation) (events : List ClientEvent) (c : Client) → IsPatient c events →
+    phase_blocks (client_run events c).phase ≤ most_blocks operation →
     MISSES * (most_blocks operation + 1) ≤ time_outs events → (over : Bool) → is_over (client_run events c) ≡ over → is_over (client_run events c) ≡ true
 ends_by operation events c patient few many true is = is
 ends_by operation events c patient few many false is =

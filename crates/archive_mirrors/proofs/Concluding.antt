@@ -35,7 +35,8 @@ sources-best events may rules here c = both_ways rules ((run events).taken here)
 pub whole-absorbed : (rules : Ruleset) (theirs own : List (List ℕ)) (text : List ℕ) (c : Collected) → IsBestOver rules theirs text →
     IsCollectionOf rules (own ++ text ∷ []) c ↔ IsCollectionOf rules (own ++ theirs) c
 whole-absorbed rules theirs own text c best =
-    both_ways rules (own ++ text ∷ []) (own ++ theirs) c (good_joined rules own own (text ∷ []) theirs (good_itself rules own) (best_good rules theirs text best))
+    both_ways rules (own ++ text ∷ []) (own ++ theirs) c
+    (good_joined rules own own (text ∷ []) theirs (good_itself rules own) (best_good rules theirs text best))
 
 pub better-absorbed : (rules : Ruleset) (theirs own earlier : List (List ℕ)) (fetched old text : List ℕ) (c : Collected) →
     IsBestOver rules theirs fetched →
@@ -87,11 +88,13 @@ pub all-best : (before after : List Event) → AllMayHappen (before ++ after) st
     OnlyAt archives before → (here : ℕ) → AllReach rules (run before) after archives here → (text : List ℕ) →
     IsBestOver rules ((run (before ++ after)).taken here) text → IsBestOver rules (outside_of (before ++ after)) text
 all-best before after may none rules archives only here reached text best =
-    best_as rules ((run (before ++ after)).taken here) (outside_of (before ++ after)) text (all-good before after may none rules archives only here reached) best
+    best_as rules ((run (before ++ after)).taken here) (outside_of (before ++ after)) text
+    (all-good before after may none rules archives only here reached) best
 
 pub all-equal : (before after : List Event) → AllMayHappen (before ++ after) start → outside_of after ≡ [] →
     (rules : Ruleset) (archives : List ℕ) →
-    OnlyAt archives before → (here there : ℕ) → AllReach rules (run before) after archives here → AllReach rules (run before) after archives there → (x y : List ℕ) →
+    OnlyAt archives before → (here there : ℕ) → AllReach rules (run before) after archives here → AllReach rules (run before) after archives there →
+    (x y : List ℕ) →
     IsBestOver rules ((run (before ++ after)).taken here) x → IsBestOver rules ((run (before ++ after)).taken there) y → x ≡ y
 all-equal before after may none rules archives only here there reached_here reached_there x y best_x best_y =
     one_text rules (outside_of (before ++ after)) x y
@@ -193,10 +196,13 @@ nothing_covered : (rules : Ruleset) (mine theirs : List ℕ) → IsCollectionTex
     Covers rules (theirs ∷ []) (mine ∷ [])
 nothing_covered rules mine theirs t none =
     let part = nothing_part rules mine theirs t none in
-    let good = part_good rules mine theirs (empty_text rules) part (better_named rules mine theirs (empty_text rules) t part) (theirs ∷ []) (covers_itself rules (theirs ∷ [])) in
+    let good =
+    part_good rules mine theirs (empty_text rules) part (better_named rules mine theirs (empty_text rules) t part) (theirs ∷ [])
+    (covers_itself rules (theirs ∷ [])) in
     let empty : Covers rules (theirs ∷ []) (theirs ∷ empty_text rules ∷ []) =
     covers_both rules (theirs ∷ []) (theirs ∷ []) (empty_text rules ∷ []) (covers_itself rules (theirs ∷ []))
-    (covers_then rules (theirs ∷ []) [] (empty_text rules ∷ []) (more_cover rules [] (theirs ∷ []) (λ x has. absurd (Contains-none x has))) (empty_good rules rules).1) in
+    (covers_then rules (theirs ∷ []) [] (empty_text rules ∷ []) (more_cover rules [] (theirs ∷ []) (λ x has. absurd (Contains-none x has)))
+    (empty_good rules rules).1) in
     covers_then rules (theirs ∷ []) (theirs ∷ empty_text rules ∷ []) (mine ∷ []) empty
     (covers_then rules (theirs ∷ empty_text rules ∷ []) (theirs ∷ mine ∷ []) (mine ∷ []) good.0 (right_covers rules (theirs ∷ []) (mine ∷ [])))
 
@@ -206,5 +212,7 @@ both-equal rules xs ys x y best_x best_y none_x none_y =
     let good : AsGood rules (x ∷ []) (y ∷ []) =
     (nothing_covered rules y x (from_best rules ys y best_y) none_y, nothing_covered rules x y (from_best rules xs x best_x) none_x) in
     one_text rules ys x y
-    (best_as rules xs ys x (good_then rules xs (x ∷ []) ys (good_back rules (x ∷ []) xs (best_good rules xs x best_x)) (good_then rules (x ∷ []) (y ∷ []) ys good (best_good rules ys y best_y))) best_x)
+    (best_as rules xs ys x
+    (good_then rules xs (x ∷ []) ys (good_back rules (x ∷ []) xs (best_good rules xs x best_x))
+    (good_then rules (x ∷ []) (y ∷ []) ys good (best_good rules ys y best_y))) best_x)
     best_y

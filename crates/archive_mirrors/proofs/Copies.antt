@@ -57,7 +57,8 @@ best_good rules texts text best =
 pub file_of : (rules : Ruleset) (text : List ℕ) (f : File) → IsCollectionText rules text → IsText text f → f.ruleset ≡ rules
 file_of rules text f t is =
     let same : f ≡ file_from t.collection t.fits =
-    one_file text f (file_from t.collection t.fits) is (subst (λ (x : List ℕ). IsText x (file_from t.collection t.fits)) (sym t.text_is) (is_text t.collection t.fits)) in
+    one_file text f (file_from t.collection t.fits) is
+    (subst (λ (x : List ℕ). IsText x (file_from t.collection t.fits)) (sym t.text_is) (is_text t.collection t.fits)) in
     ap (λ (g : File). g.ruleset) same ∙ file_rules t.collection t.fits ∙ t.rules_are
 
 none_by : (rules named : Ruleset) (rs : List Record) → named ≢ rules → solved_by rules named rs ≡ []
@@ -146,7 +147,8 @@ module _ (rules : Ruleset) (mine theirs text : List ℕ) (b : IsBetterPart mine 
   part_fits : IsCollected part
   part_fits = record {
     rising = rising_kept is_better_at (best_in b.my_file) (best_of_is (solved_in b.my_file.records)).rising;
-    solved = all_from IsKeyedBody part.entries (λ e has. all_at IsKeyedBody (solved_in b.my_file.records) e (solved_entries b.my_file.records b.my_text.fits.records) (part_solved e has));
+    solved = all_from IsKeyedBody part.entries
+        (λ e has. all_at IsKeyedBody (solved_in b.my_file.records) e (solved_entries b.my_file.records b.my_text.fits.records) (part_solved e has));
   }
 
   pub part_text : IsCollectionText rules text
@@ -191,7 +193,8 @@ module _ (rules : Ruleset) (mine theirs text : List ℕ) (b : IsBetterPart mine 
   both_cover =
       holds_then (IsSolutionIn rules both) IsPart (IsSolutionIn rules (mine ∷ [])) both_hold_part
       (holds_then IsPart IsAll (IsSolutionIn rules (mine ∷ [])) part_holds_all
-      (λ e s. held_itself IsAll e (Contains-append_right (best_in b.their_file) (solved_in b.my_file.records) e (text_solves rules mine b.my_file b.my_text named e s))))
+      (λ e s. held_itself IsAll e
+      (Contains-append_right (best_in b.their_file) (solved_in b.my_file.records) e (text_solves rules mine b.my_file b.my_text named e s))))
 
   -- for texts that cover theirs, what is better is as good as all of mine
   pub part_good : (texts : List (List ℕ)) → Covers rules texts (theirs ∷ []) → AsGood rules (texts ++ text ∷ []) (texts ++ mine ∷ [])
@@ -200,7 +203,8 @@ module _ (rules : Ruleset) (mine theirs text : List ℕ) (b : IsBetterPart mine 
       let many = texts ++ mine ∷ [] in (
         covers_both rules few texts (mine ∷ []) (left_covers rules texts (text ∷ []))
             (covers_then rules few both (mine ∷ [])
-            (covers_both rules few (theirs ∷ []) (text ∷ []) (covers_then rules few texts (theirs ∷ []) (left_covers rules texts (text ∷ [])) covered) (right_covers rules texts (text ∷ [])))
+            (covers_both rules few (theirs ∷ []) (text ∷ []) (covers_then rules few texts (theirs ∷ []) (left_covers rules texts (text ∷ [])) covered)
+            (right_covers rules texts (text ∷ [])))
             both_cover),
         covers_both rules many texts (text ∷ []) (left_covers rules texts (mine ∷ []))
             (covers_then rules many (mine ∷ []) (text ∷ []) (right_covers rules texts (mine ∷ [])) mine_covers),

@@ -40,7 +40,8 @@ same_best IsFirst IsSecond es there back of = record {
       let up : IsBelow (rank_of y.holder.body) (rank_of e.body) → ⊥ =
       no_better (rank_of e.body) (rank_of x.holder.body) (rank_of y.holder.body) (b.least x.holder x.member (x.same ∙ y.same)) x.no_worse in
       record {
-        member = subst IsSecond (entry_is y.holder e y.same (even_by y.holder.body e.body (rank_cmp (rank_of y.holder.body) (rank_of e.body)) refl up y.no_worse)) y.member;
+        member = subst IsSecond
+            (entry_is y.holder e y.same (even_by y.holder.body e.body (rank_cmp (rank_of y.holder.body) (rank_of e.body)) refl up y.no_worse)) y.member;
         least = λ f member same.
             let h = there f member in
             no_better (rank_of e.body) (rank_of h.holder.body) (rank_of f.body) (b.least h.holder h.member (h.same ∙ same)) h.no_worse;

@@ -66,7 +66,8 @@ pub one_better : (mine theirs x y : List ℕ) → IsBetterPart mine theirs x →
 one_better mine theirs x y first second =
     let my_file : first.my_file ≡ second.my_file = one_file mine first.my_file second.my_file first.my_text second.my_text in
     let their_file : first.their_file ≡ second.their_file = one_file theirs first.their_file second.their_file first.their_text second.their_text in
-    first.text_is ∙ ap (λ (f : File). collection_text (better_of f first.their_file)) my_file ∙ ap (λ (f : File). collection_text (better_of second.my_file f)) their_file ∙ sym second.text_is
+    first.text_is ∙ ap (λ (f : File). collection_text (better_of f first.their_file)) my_file ∙ ap
+    (λ (f : File). collection_text (better_of second.my_file f)) their_file ∙ sym second.text_is
 
 -- ---- nothing better
 
@@ -89,5 +90,6 @@ nothing_itself rules text t =
       my_text = is;
       their_text = is;
       same = refl;
-      none = none_kept (λ (e : KeyedBody). is_improvement (standing_at (sides_of file file) e.key)) (best_in file) (λ e. equal_no_better (body_at (best_in file) e.key));
+      none = none_kept (λ (e : KeyedBody). is_improvement (standing_at (sides_of file file) e.key)) (best_in file)
+          (λ e. equal_no_better (body_at (best_in file) e.key));
     }

@@ -201,13 +201,15 @@ brought : (w : Archives) (here : ℕ) (copy : Copy) (t : List ℕ) → Contains 
     Contains (w.sources copy.rules here ++ at_archive here here (of_ruleset copy.rules copy.rules copy.sources)) t
 brought w here copy t has =
     Contains-append_right (w.sources copy.rules here) (at_archive here here (of_ruleset copy.rules copy.rules copy.sources)) t
-    (subst (λ (xs : List (List ℕ)). Contains xs t) (sym (at_itself here (of_ruleset copy.rules copy.rules copy.sources) ∙ of_itself copy.rules copy.sources)) has)
+    (subst (λ (xs : List (List ℕ)). Contains xs t)
+    (sym (at_itself here (of_ruleset copy.rules copy.rules copy.sources) ∙ of_itself copy.rules copy.sources)) has)
 
 brought_at : (w : Archives) (archive here : ℕ) (one copy : Copy) (t : List ℕ) → (archive ≡ here) × (one ≡ copy) → Contains copy.sources t →
     Contains (w.sources copy.rules here ++ at_archive archive here (of_ruleset one.rules copy.rules one.sources)) t
 brought_at w archive here one copy t same has =
     subst (λ (n : ℕ). Contains (w.sources copy.rules here ++ at_archive n here (of_ruleset one.rules copy.rules one.sources)) t) (sym same.0)
-    (subst (λ (c : Copy). Contains (w.sources copy.rules here ++ at_archive here here (of_ruleset c.rules copy.rules c.sources)) t) (sym same.1) (brought w here copy t has))
+    (subst (λ (c : Copy). Contains (w.sources copy.rules here ++ at_archive here here (of_ruleset c.rules copy.rules c.sources)) t) (sym same.1)
+    (brought w here copy t has))
 
 put-brings : (put : Event) (w : Archives) (here : ℕ) (copy : Copy) → Brings put here copy → (t : List ℕ) → Contains copy.sources t →
     Contains ((happens put w).sources copy.rules here) t

@@ -49,7 +49,8 @@ later : (taken more : ℕ → List (List ℕ)) → ((here : ℕ) (t : List ℕ) 
 later taken more there copy c = record {
   is_text = c.is_text;
   good = c.good;
-  own = covers_then copy.rules (more copy.archive) (taken copy.archive) (copy.text ∷ []) (more_cover copy.rules (taken copy.archive) (more copy.archive) (there copy.archive)) c.own;
+  own = covers_then copy.rules (more copy.archive) (taken copy.archive) (copy.text ∷ [])
+      (more_cover copy.rules (taken copy.archive) (more copy.archive) (there copy.archive)) c.own;
 }
 
 text-stands : (archive : ℕ) (text : List ℕ) (more : Ruleset → List (List ℕ)) (w : Archives) → Stands w →
@@ -58,7 +59,8 @@ text-stands : (archive : ℕ) (text : List ℕ) (more : Ruleset → List (List �
 text-stands archive text more w stands good = record {
   archives = λ rules here.
       good_at rules archive here (archive == here) w.taken (w.sources rules) (λ n. text ∷ []) (λ n. more rules) refl (stands.archives rules here) (good rules);
-  copies = λ copy has. later w.taken (with_text archive text more w).taken (λ here t among. Contains-append_left (w.taken here) (at_archive archive here (text ∷ [])) t among) copy (stands.copies copy has);
+  copies = λ copy has. later w.taken (with_text archive text more w).taken
+      (λ here t among. Contains-append_left (w.taken here) (at_archive archive here (text ∷ [])) t among) copy (stands.copies copy has);
 }
 
 -- the whole of a copy
@@ -88,7 +90,8 @@ other_better its rules taken sources mine theirs text apart t b stands =
 
 better_good : (its rules : Ruleset) (taken sources more : List (List ℕ)) (mine theirs text : List ℕ) → IsCollectionText its mine →
     IsBetterPart mine theirs text →
-    AsGood its (mine ∷ []) more → Covers its taken (theirs ∷ []) → AsGood rules taken sources → AsGood rules (taken ++ text ∷ []) (sources ++ of_ruleset its rules more)
+    AsGood its (mine ∷ []) more → Covers its taken (theirs ∷ []) → AsGood rules taken sources →
+    AsGood rules (taken ++ text ∷ []) (sources ++ of_ruleset its rules more)
 better_good Lynx Lynx taken sources more mine theirs text t b good covered stands = same_better Lynx taken sources more mine theirs text t b good covered stands
 better_good Lynx Ms taken sources more mine theirs text t b good covered stands = other_better Lynx Ms taken sources mine theirs text lynx-apart t b stands
 better_good Ms Lynx taken sources more mine theirs text t b good covered stands = other_better Ms Lynx taken sources mine theirs text ms-apart t b stands
@@ -109,7 +112,8 @@ sources-stand : (archive : ℕ) (copy : Copy) (w : Archives) → Stands w →
     ((rules : Ruleset) → AsGood rules (w.taken archive) (w.sources rules archive ++ of_ruleset copy.rules rules copy.sources)) →
     Stands (with_sources archive copy w)
 sources-stand archive copy w stands good = record {
-  archives = λ rules here. sources_at rules archive here (archive == here) w.taken (w.sources rules) (of_ruleset copy.rules rules copy.sources) refl (stands.archives rules here) (good rules);
+  archives = λ rules here. sources_at rules archive here (archive == here) w.taken (w.sources rules) (of_ruleset copy.rules rules copy.sources) refl
+      (stands.archives rules here) (good rules);
   copies = stands.copies;
 }
 
@@ -118,7 +122,8 @@ sources-stand archive copy w stands good = record {
 step-stands : (e : Event) (w : Archives) → MayHappen e w → Stands w → Stands (happens e w)
 step-stands (takes archive text) w may stands =
     text-stands archive text (λ rules. text ∷ []) w stands
-    (λ rules. good_joined rules (w.taken archive) (w.sources rules archive) (text ∷ []) (text ∷ []) (stands.archives rules archive) (good_itself rules (text ∷ [])))
+    (λ rules. good_joined rules (w.taken archive) (w.sources rules archive) (text ∷ []) (text ∷ []) (stands.archives rules archive)
+    (good_itself rules (text ∷ [])))
 step-stands (fetches archive rules text) w may stands = record {
   archives = stands.archives;
   copies = λ copy has. elim (Contains-push_cases w.copies (copy_of w archive rules text) copy has) [
@@ -136,7 +141,8 @@ step-stands (fetches archive rules text) w may stands = record {
 step-stands (puts archive copy) w may stands =
     let c = stands.copies copy may in
     text-stands archive copy.text (λ rules. of_ruleset copy.rules rules copy.sources) w stands
-    (λ rules. good_joined rules (w.taken archive) (w.sources rules archive) (copy.text ∷ []) (of_ruleset copy.rules rules copy.sources) (stands.archives rules archive)
+    (λ rules. good_joined rules (w.taken archive) (w.sources rules archive) (copy.text ∷ []) (of_ruleset copy.rules rules copy.sources)
+    (stands.archives rules archive)
     (copy_good copy.rules rules copy.text copy.sources c.is_text c.good))
 step-stands (puts_better archive copy own text) w may stands =
     let c = stands.copies copy may.fetched in

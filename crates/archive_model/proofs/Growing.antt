@@ -258,6 +258,7 @@ end-extends [] after w = run-extends after w
 end-extends (s ∷ before) after w = end-extends before after (happens s w)
 
 -- and by the step that comes then
-pub next-extends : (before after : List WorldStep) (s : WorldStep) (w : World) → Extends (happens s (run_from before w)).past (run_from (before ++ s ∷ after) w).past
+pub next-extends : (before after : List WorldStep) (s : WorldStep) (w : World) →
+    Extends (happens s (run_from before w)).past (run_from (before ++ s ∷ after) w).past
 next-extends [] after s w = run-extends after (happens s w)
 next-extends (x ∷ before) after s w = next-extends before after s (happens x w)

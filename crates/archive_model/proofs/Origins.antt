@@ -5,7 +5,8 @@ use Rattle.archive_model.specs.Adding.{AddsOne}
 use Rattle.archive_model.proofs.Places.{either, at-push}
 
 -- a step of the run has added this at this place, where `Fits` holds of it
-pub record AddedIn {A : Type 0} (list : World → List A) (Fits : World → WorldStep → A → Type 0) (steps : List WorldStep) (w : World) (i : ℕ) (x : A) : Type 0 where
+pub record AddedIn {A : Type 0} (list : World → List A) (Fits : World → WorldStep → A → Type 0) (steps : List WorldStep) (w : World) (i : ℕ)
+    (x : A) : Type 0 where
   pub before : List WorldStep
   pub step : WorldStep
   pub after : List WorldStep

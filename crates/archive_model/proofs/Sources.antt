@@ -95,7 +95,8 @@ module _ (grant : Grant) (maps : Maps) (port : ℕ) (from : Endpoint) (s : Table
   packet_from t false is (ack n) = tt
   packet_from t false is (error code text) = tt
 
-  decoded_from : (t : Transfer) (answer : Result Packet PacketFault) → IsFrom from (transfer_by_input (transfer_input_decoded t.peer from answer) grant maps port from t s).step.taken
+  decoded_from : (t : Transfer) (answer : Result Packet PacketFault) →
+      IsFrom from (transfer_by_input (transfer_input_decoded t.peer from answer) grant maps port from t s).step.taken
   decoded_from t (Ok p) = packet_from t (is_same from t.peer) refl p
   decoded_from t (Err e) = tt
 

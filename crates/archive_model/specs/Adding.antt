@@ -66,4 +66,6 @@ pub record OnlyEndsTransfers (w v : World) : Type 0 where
 -- If a delivery changes the collections, and everything was granted, they are kept by the end of the same step.
 abbrev pub KeepsChange : World → (index spare : ℕ) → Maps → (before after : List Keeping) → Type 0
 KeepsChange w index spare maps before after =
-    EventKeeps (deliver index spare) all w (event_happens (deliver index spare) all maps w) before after → (event_happens (deliver index spare) all maps w).server.maps ≢ w.server.maps → KeepsMaps w.server.maps (event_happens (deliver index spare) all maps w).server.maps (Some before) (Some after)
+    EventKeeps (deliver index spare) all w (event_happens (deliver index spare) all maps w) before after →
+    (event_happens (deliver index spare) all maps w).server.maps ≢ w.server.maps →
+    KeepsMaps w.server.maps (event_happens (deliver index spare) all maps w).server.maps (Some before) (Some after)

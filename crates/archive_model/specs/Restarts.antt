@@ -47,7 +47,8 @@ StepStaysKept grant wanted old new before after =
 -- what is loaded is what the server had
 abbrev pub LoadsTheSame : List Keeping → Maps → Type 0
 LoadsTheSame log maps =
-    HasKept log maps → IsCollected maps.lynx → IsCollected maps.ms → (lynx ms : Collected) → LoadedFrom Lynx (Some log) lynx → LoadedFrom Ms (Some log) ms → (lynx ≡ maps.lynx) × (ms ≡ maps.ms)
+    HasKept log maps → IsCollected maps.lynx → IsCollected maps.ms → (lynx ms : Collected) → LoadedFrom Lynx (Some log) lynx → LoadedFrom Ms (Some log) ms →
+    (lynx ≡ maps.lynx) × (ms ≡ maps.ms)
 
 -- The keeper failed, or an allocation was refused. What was kept is not at fault.
 abbrev pub IsOutside : LoadFault → Type 0

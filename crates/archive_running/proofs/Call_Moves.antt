@@ -20,7 +20,7 @@ use Rattle.archive_model.specs.World.{Begun, Origin}
 use Rattle.archive_theorem.specs.Headline.{IsOwn}
 use Rattle.archive_theorem.specs.Traces.{Member, starts}
 use Rattle.archive_model.proofs.Places.{Has, Has-prefix, Has-from_contains, Has-last, IsPrefix-push}
-use Rattle.archive_theorem.proofs.Owning.{one_operation, same_put, same_get}
+use Rattle.archive_theorem.proofs.Claim_Owns.{one_operation, same_put, same_get}
 use Rattle.archive_model.proofs.Endpoints.{exact_endpoint, same_endpoint}
 use Rattle.archive_theorem.proofs.Keyed.{lookup-written}
 use Rattle.archive_running.specs.Members.{does, visit_members, late_members}

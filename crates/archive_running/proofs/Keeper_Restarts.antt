@@ -15,8 +15,8 @@ use Rattle.archive_server.specs.declared.next.Next.{Next}
 use Rattle.archive_server.specs.declared.next.Next.TheVariants as next
 use Rattle.archive_server.specs.declared.timer.Timer.{Timer}
 use Rattle.archive_model.specs.Restarts.{AreAlike, LoadsAs, HaveOwnRuleset}
-use Rattle.archive_theorem.proofs.Loading.{step-loads_as, loads-as}
-use Rattle.archive_theorem.proofs.Remaining.{decoded_leaves, timeout_leaves, found_takes}
+use Rattle.archive_theorem.proofs.Keeper_Loads.{step-loads_as, loads-as}
+use Rattle.archive_theorem.proofs.Headline_Remains.{decoded_leaves, timeout_leaves, found_takes}
 use Rattle.archive_running.specs.Archive.{LoadsKept, LoadsWith}
 
 -- what a keeper with a log has is loaded as these collections

@@ -17,7 +17,7 @@ use Rattle.archive_model.specs.World.{Datagram, World}
 use Rattle.archive_theorem.specs.Traces.{trace_from}
 use Rattle.archive_model.proofs.Places.{Has, Has-contains, Has-from_contains}
 use Rattle.archive_theorem.proofs.Keyed as keyed
-use Rattle.archive_theorem.proofs.Invariant.{exact_port}
+use Rattle.archive_theorem.proofs.Claim_Invariant.{exact_port}
 use Rattle.archive_running.specs.Members.{arrival, sent_in, sent_in_calls, late_members, others_of, end_member}
 use Rattle.archive_running.specs.Archive.{Archive, after_server, after_end}
 use Rattle.archive_running.proofs.World_Shows.{Shows, outs, sent-calls, shows-permuted}

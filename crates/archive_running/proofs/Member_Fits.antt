@@ -2,8 +2,8 @@
 use Rattle.std.proofs.Common.{◌≡◌, List, [], ◌∷◌, ◌++◌, refl, sym, subst}
 use Rattle.archive_model.specs.World.{World, run_from, AllMayHappen}
 use Rattle.archive_theorem.specs.Traces.{Member, after_deed, trace_from, member_steps, trace_steps, DeedMerged, AllDeedsMerged}
-use Rattle.archive_theorem.proofs.Happening.{may-append}
-use Rattle.archive_theorem.proofs.Tracing.{deed_fits}
+use Rattle.archive_theorem.proofs.Event_Happens.{may-append}
+use Rattle.archive_theorem.proofs.Trace_Runs.{deed_fits}
 
 -- the events of a member may happen, and the file that it takes makes the collections after it
 pub record Fits (m : Member) (w : World) : Type 0 where

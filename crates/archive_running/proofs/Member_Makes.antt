@@ -16,9 +16,9 @@ use Rattle.archive_model.specs.World.{Datagram, World, has_begun, asked_of, take
 use Rattle.archive_theorem.specs.Traces.{Member, server_waits_long, client_waits_long, starts, loads, is_same_datagram, position_after, position_of, named_in, server_comes, comes, after_deed, at_place, delivery, steps_with, member_steps, trace_from, DeedMerged}
 use Rattle.archive_model.proofs.Places.{Has, at-last}
 use Rattle.archive_model.proofs.Endpoints.{same_endpoint}
-use Rattle.archive_theorem.proofs.Remaining.{timeout_leaves, decoded_leaves}
-use Rattle.archive_theorem.proofs.Totality.{not_more, one_last}
-use Rattle.archive_theorem.proofs.Tracing.{found_at}
+use Rattle.archive_theorem.proofs.Headline_Remains.{timeout_leaves, decoded_leaves}
+use Rattle.archive_theorem.proofs.Headline_Total.{not_more, one_last}
+use Rattle.archive_theorem.proofs.Trace_Runs.{found_at}
 use Rattle.archive_running.specs.Members.{arrival, grant_for, reception, does, end_member}
 use Rattle.archive_running.specs.Archive.{Archive, IsStrangers, after_restart}
 use Rattle.archive_running.proofs.Member_Fits.{AllFit}

@@ -20,13 +20,14 @@ use Rattle.archive_model.specs.World.{Datagram, World, Origin, empty_origin, fir
 use Rattle.archive_theorem.specs.Headline.{IsOwn, HasOwnPorts, ClientsHeadline, Headline, SentOnce, IsFinishedGet}
 use Rattle.archive_theorem.specs.Traces.{Member, starts, loads, trace_from, trace_steps, TraceFrom}
 use Rattle.archive_model.proofs.Places.{Has-contains, Has-from_contains}
-use Rattle.archive_theorem.proofs.Invariant.{AreBest, Holds, exact_port, first-best}
+use Rattle.archive_theorem.proofs.Claim_Invariant.{AreBest, Holds, exact_port, first-best}
 use Rattle.archive_theorem.proofs.Keyed as keyed
-use Rattle.archive_theorem.proofs.Merging.{best-taken}
-use Rattle.archive_theorem.proofs.Happening.{last-holds}
-use Rattle.archive_theorem.proofs.Collecting.{best-collected, run_from-best}
-use Rattle.archive_theorem.proofs.Persisting.{own-ruleset}
-use Rattle.archive_theorem.proofs.Tracing.{trace-makes, trace_merged, trace-clients, trace-headline}
+use Rattle.archive_theorem.proofs.Server_Merges.{best-taken}
+use Rattle.archive_theorem.proofs.Event_Happens.{last-holds}
+use Rattle.tws_best.proofs.Collections.{best-collected}
+use Rattle.archive_theorem.proofs.Headline_Collections.{run_from-best}
+use Rattle.archive_theorem.proofs.Keeper_Runs.{own-ruleset}
+use Rattle.archive_theorem.proofs.Trace_Runs.{trace-makes, trace_merged, trace-clients, trace-headline}
 use Rattle.archive_running.specs.Members.{sent_in_calls, come_to, does, received_members, quiet_members, client_members, arrived_members, goes_members, round_members}
 use Rattle.archive_running.specs.Archive.{Archive, idle, IsStrangers, Brings, own_endpoint, after_begin, after_client_turn, after_restart, after_end, LoadsKept, LoadsWith, Moves, server_turns, server_rounds, server_restarts, server_ends, client_begins, client_turns, client_rounds, Reaches, reported, unreported, more, ArchiveRun, world_of, Mirrors, WritesFinished}
 use Rattle.archive_running.proofs.Member_Fits.{all-may, all-merged}

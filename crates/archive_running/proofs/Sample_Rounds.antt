@@ -22,11 +22,11 @@ use Rattle.archive_model.specs.World.{server_endpoint}
 use Rattle.archive_theorem.specs.Samples.{sample_file, sample_maps}
 use Rattle.archive_theorem.specs.Traces.{Member, starts, loads}
 use Rattle.archive_theorem.specs.Headline.{IsOwn, HasOwnPorts}
-use Rattle.archive_theorem.proofs.Loading.{loads_itself}
+use Rattle.archive_theorem.proofs.Keeper_Loads.{loads_itself}
 use Rattle.archive_model.proofs.Places.{Has-contains}
-use Rattle.archive_theorem.proofs.OwnTest.{own-by}
-use Rattle.archive_theorem.proofs.OwnEndpoints.{own-if}
-use Rattle.archive_theorem.proofs.SampleFiles.{sample_collected_100, hundred-first}
+use Rattle.archive_theorem.proofs.Port_Sample.{own-by}
+use Rattle.archive_theorem.proofs.Port_Endpoints.{own-if}
+use Rattle.archive_theorem.proofs.Sample_Files.{sample_collected_100, hundred-first}
 use Rattle.archive_running.specs.Members.{visit_members, late_members, client_members, does}
 use Rattle.archive_running.specs.Archive.{Archive, idle, server_in, after_server, after_begin, after_client_turn, after_restart, LoadsKept, Moves, server_rounds, server_restarts, client_begins, client_turns, Reaches, reported, more, ArchiveRun, world_of, IsByRounds, CanRestart}
 use Rattle.archive_running.specs.Calls.{Moment, world_at, then, begun_at, RunTurnsHappen, PutCanHappen}

@@ -16,9 +16,9 @@ use Rattle.archive_model.specs.Restarts.{LoadsAs}
 use Rattle.archive_theorem.specs.Samples.{sample_file, sample_maps}
 use Rattle.archive_theorem.specs.Traces.{Member, starts}
 use Rattle.archive_theorem.specs.Headline.{IsOwn}
-use Rattle.archive_theorem.proofs.Loading.{loads_itself}
-use Rattle.archive_theorem.proofs.OwnEndpoints.{own-if}
-use Rattle.archive_theorem.proofs.SampleFiles.{sample_collected_100}
+use Rattle.archive_theorem.proofs.Keeper_Loads.{loads_itself}
+use Rattle.archive_theorem.proofs.Port_Endpoints.{own-if}
+use Rattle.archive_theorem.proofs.Sample_Files.{sample_collected_100}
 use Rattle.archive_running.specs.Members.{client_members, does}
 use Rattle.archive_running.specs.Archive.{Archive, idle, after_begin, after_client_turn, Moves, server_rounds, client_begins, client_turns, Reaches, reported, more, ArchiveRun, world_of}
 use Rattle.archive_running.specs.Starts.{StartsFrom, CanStart}

@@ -25,8 +25,8 @@ use Rattle.archive_theorem.specs.Traces.{Member, starts}
 use Rattle.archive_theorem.specs.Headline.{HasOwnPorts}
 use Rattle.archive_model.specs.Restarts.{LoadsAs}
 use Rattle.archive_model.proofs.Places.{Has-contains, Has-from_contains}
-use Rattle.archive_theorem.proofs.OwnTest.{own-by}
-use Rattle.archive_theorem.proofs.Premises.{empty_merged}
+use Rattle.archive_theorem.proofs.Port_Sample.{own-by}
+use Rattle.archive_theorem.proofs.Sample_Put.{empty_merged}
 use Rattle.archive_running.specs.Members.{come_to, visit_members, late_members, client_members, does}
 use Rattle.archive_running.specs.Archive.{Archive, idle, Brings, server_in, after_server, after_begin, after_client_turn, Moves, server_turns, client_begins, client_turns, reported, more, ArchiveRun, world_of, CanReach}
 

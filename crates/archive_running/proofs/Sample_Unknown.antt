@@ -20,9 +20,9 @@ use Rattle.archive_theorem.specs.Samples.{sample_file, sample_maps}
 use Rattle.archive_theorem.specs.Traces.{Member, starts}
 use Rattle.archive_theorem.specs.Headline.{HasOwnPorts}
 use Rattle.archive_model.proofs.Places.{Has-contains}
-use Rattle.archive_theorem.proofs.Loading.{loads_itself}
-use Rattle.archive_theorem.proofs.OwnTest.{own-by}
-use Rattle.archive_theorem.proofs.SampleFiles.{sample_collected_100, hundred-first}
+use Rattle.archive_theorem.proofs.Keeper_Loads.{loads_itself}
+use Rattle.archive_theorem.proofs.Port_Sample.{own-by}
+use Rattle.archive_theorem.proofs.Sample_Files.{sample_collected_100, hundred-first}
 use Rattle.archive_running.specs.Members.{arrival, client_members, does, end_member}
 use Rattle.archive_running.specs.Archive.{Archive, after_end, LoadsWith, Moves, server_rounds, server_ends, client_turns, Reaches, more, ArchiveRun, world_of, CanEnd}
 use Rattle.archive_running.proofs.Sample_Turns.{from_nothing, brings_at, a_visit}

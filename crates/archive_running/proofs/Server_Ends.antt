@@ -16,7 +16,7 @@ use Rattle.archive_table.specs.Table.{Table, Maps, Transfer, Taken, TableAnswer,
 use Rattle.archive_server.specs.Turn.{step_calls, Walk, walk_on}
 use Rattle.archive_wire.specs.Wire.{Entry, Replies}
 use Rattle.archive_model.specs.World.{Datagram}
-use Rattle.archive_theorem.proofs.Invariant.{exact_port}
+use Rattle.archive_theorem.proofs.Claim_Invariant.{exact_port}
 use Rattle.archive_running.specs.Members.{sent_in_calls, sent_in, others_of}
 use Rattle.archive_running.proofs.World_Shows.{outs, sent-calls}
 

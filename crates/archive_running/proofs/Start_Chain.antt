@@ -12,15 +12,15 @@ use Rattle.archive_theorem.specs.Durable.{HoldsPromised}
 use Rattle.archive_theorem.specs.Traces.{trace_steps}
 use Rattle.archive_model.proofs.Places.{IsPrefix-on, length-prefix}
 use Rattle.archive_model.proofs.Growing.{run-extends}
-use Rattle.archive_theorem.proofs.Invariant.{AreBest, Holds}
-use Rattle.archive_theorem.proofs.Happening.{last-holds}
-use Rattle.archive_theorem.proofs.Counting.{began-by}
-use Rattle.archive_theorem.proofs.Enduring.{holds-promised}
-use Rattle.archive_theorem.proofs.Tracing.{trace-makes}
-use Rattle.archive_theorem.proofs.Merging.{best-taken}
-use Rattle.archive_theorem.proofs.Collecting.{best-collected}
-use Rattle.archive_theorem.proofs.Persisting.{own-ruleset}
-use Rattle.archive_theorem.proofs.Loading.{step-loads_as}
+use Rattle.archive_theorem.proofs.Claim_Invariant.{AreBest, Holds}
+use Rattle.archive_theorem.proofs.Event_Happens.{last-holds}
+use Rattle.archive_theorem.proofs.Headline_Begun.{began-by}
+use Rattle.archive_theorem.proofs.Keeper_Holds.{holds-promised}
+use Rattle.archive_theorem.proofs.Trace_Runs.{trace-makes}
+use Rattle.archive_theorem.proofs.Server_Merges.{best-taken}
+use Rattle.tws_best.proofs.Collections.{best-collected}
+use Rattle.archive_theorem.proofs.Keeper_Runs.{own-ruleset}
+use Rattle.archive_theorem.proofs.Keeper_Loads.{step-loads_as}
 use Rattle.tws_file.specs.declared.«ruleset».Ruleset.TheVariants.{Lynx, Ms}
 use Rattle.archive_running.specs.Archive.{ArchiveRun, world_of}
 use Rattle.archive_running.specs.Starts.{StartsFrom, StartsWith, Starts, Follows, at_once, later, FetchesAll, FetchesEarlier}

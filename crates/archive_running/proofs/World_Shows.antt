@@ -20,7 +20,7 @@ use Rattle.archive_theorem.specs.Traces.{named_in}
 use Rattle.archive_model.proofs.Places.{Has, Has-contains, Has-from_contains, Has-prefix, IsPrefix-push, Has-last, Has-push, either}
 use Rattle.archive_theorem.proofs.Keyed.{lookup-set}
 use Rattle.archive_model.proofs.Endpoints.{exact_endpoint}
-use Rattle.archive_theorem.proofs.ServerMoves.{served}
+use Rattle.archive_theorem.proofs.Server_Moves.{served}
 use Rattle.archive_running.specs.Members.{sent_in_calls}
 use Rattle.archive_running.specs.Archive.{Archive, Mirrors, after_restart}
 use Rattle.archive_running.proofs.Server_Ports.{IsApart}

@@ -14,10 +14,10 @@ use Rattle.archive_client.specs.Client.{Client, failed, state_of}
 use Rattle.archive_model.specs.World.{Datagram, Opening, Got, World, client_at, Extends}
 use Rattle.archive_model.proofs.Places.{Has, Has-prefix, at-prefix, at-last, before_last}
 use Rattle.archive_theorem.specs.Headline.{IsOwn}
-use Rattle.archive_theorem.proofs.Claims.{HasBegun, IsBound, IsTaken, IsTakenFrom, HasCome, IsLiveEnd, IsRunning}
-use Rattle.archive_theorem.proofs.Lasting.{bound-lasts}
-use Rattle.archive_theorem.proofs.Owning.{own-before, put_begun}
-use Rattle.archive_theorem.proofs.Invariant.{Holds}
+use Rattle.archive_theorem.proofs.Claim_Past.{HasBegun, IsBound, IsTaken, IsTakenFrom, HasCome, IsLiveEnd, IsRunning}
+use Rattle.archive_theorem.proofs.Claim_Lasts.{bound-lasts}
+use Rattle.archive_theorem.proofs.Claim_Owns.{own-before, put_begun}
+use Rattle.archive_theorem.proofs.Claim_Invariant.{Holds}
 use Rattle.archive_theorem.proofs.Error_Table.{IsWith, HasUntaken}
 
 -- ---- what is claimed
@@ -127,7 +127,8 @@ module _ (w v : World) (h : Holds w) (k : Holds v) (tells : Tells w) (c : Change
       own.openings position (length w.opened) closed.opening new.opening still last closed.peer new.peer_is (closed.port_is ∙ sym new.port_is) in
       absurd (omega arith)
 
-  gone_still : (e : Endpoint) (port : ℕ) → IsOwn v e → WasClosed w e port → (t : Transfer) → t.peer ≡ e → IsWith w.server port t.peer ⊎ Opens w v port t.peer → ⊥
+  gone_still : (e : Endpoint) (port : ℕ) → IsOwn v e → WasClosed w e port → (t : Transfer) → t.peer ≡ e →
+      IsWith w.server port t.peer ⊎ Opens w v port t.peer → ⊥
   gone_still e port own closed t same (inl old) = closed.gone old.transfer old.is (old.same ∙ same)
   gone_still e port own closed t same (inr new) = opens_twice e port own closed (subst (Opens w v port) same new)
 
@@ -210,13 +211,15 @@ module _ (w v : World) (h : Holds w) (k : Holds v) (tells : Tells w) (c : Change
 
     module _ (port : ℕ) (closes : ClosesFor w v e port) where
       -- it has no file that was taken
-      come_untaken : {P : Type 0} (file : List ℕ) (r : Receiver) (state : RecvState) → IsEnded state → HasCome w.past e file r state → (text : List ℕ) → r.file ≡ Some text → P
+      come_untaken : {P : Type 0} (file : List ℕ) (r : Receiver) (state : RecvState) → IsEnded state → HasCome w.past e file r state →
+          (text : List ℕ) → r.file ≡ Some text → P
       come_untaken file r recv.Running ended come text is = absurd ended
       come_untaken file r recv.Complete ended come text is = let both : None ≡ Some text = sym come.1 ∙ is in absurd cc
       come_untaken file r recv.TimedOut ended come text is = absurd ended
       come_untaken file r recv.Over ended come text is = absurd come
 
-      end_untaken : {P : Type 0} (t : Transfer) (end : End) → t.end ≡ end → transfer_at port w.server ≡ Some t → t.peer ≡ e → HasUntaken end → IsLiveEnd w.past e port end →
+      end_untaken : {P : Type 0} (t : Transfer) (end : End) → t.end ≡ end → transfer_at port w.server ≡ Some t → t.peer ≡ e → HasUntaken end →
+          IsLiveEnd w.past e port end →
           (u : Taken) → Has w.taken u → u.peer ≡ e → IsBound w.past e port → P
       end_untaken t (sending s) at is peer untaken live u has same bound = absurd untaken
       end_untaken t (receiving r) at is peer (inl running) live u has same bound =

@@ -22,7 +22,7 @@ use Rattle.archive_client.specs.declared.state.State.TheVariants as state
 use Rattle.archive_client.specs.Client.{Operation, put, get, Phase, asking, sending, receiving, failed, Client, ClientAnswer, is_over, client_stays, client_input, client_input_at, client_input_at_port, client_input_decoded, phase_peer, client_by_input, client_unless_over, client_datagram, client_timeout, phase_waits, asks_again, put_answered, put_waited, get_took, get_sent, get_answered, get_refused, get_waited, cause_of, state_of, phase_state, send_state, recv_state, sends_to}
 use Rattle.archive_client.proofs.Machine.{client_at, over-datagram}
 use Rattle.archive_model.specs.World.{newly_got}
-use Rattle.archive_theorem.proofs.Claims.{MayBind}
+use Rattle.archive_theorem.proofs.Claim_Past.{MayBind}
 
 -- ---- what an ERROR is for a client
 
@@ -38,11 +38,13 @@ record IsError (code host : ℕ) (peer : Option ℕ) (from : Endpoint) (bytes : 
   reads : decode_bytes bytes ≡ Ok (error code text)
   at : FromPeer peer from.port
 
-same_error : (n m : ℕ) (text : List ℕ) (bytes : List ℕ) → decode_bytes bytes ≡ Ok (error n text) → refusal n ≡ refusal m → decode_bytes bytes ≡ Ok (error m text)
+same_error : (n m : ℕ) (text : List ℕ) (bytes : List ℕ) → decode_bytes bytes ≡ Ok (error n text) → refusal n ≡ refusal m →
+    decode_bytes bytes ≡ Ok (error m text)
 same_error n m text bytes reads same = let one : n ≡ m = cc in reads ∙ ap (λ (k : ℕ). Ok (error k text)) one
 
 module _ (code host : ℕ) (from : Endpoint) (bytes : List ℕ) (ours : from.host ≡ host) where
-  peer_error : (peer : Option ℕ) (p : Packet) → decode_bytes bytes ≡ Ok p → FromPeer peer from.port → input_from_peer p ≡ refusal code → IsError code host peer from bytes
+  peer_error : (peer : Option ℕ) (p : Packet) → decode_bytes bytes ≡ Ok p → FromPeer peer from.port → input_from_peer p ≡ refusal code →
+      IsError code host peer from bytes
   peer_error peer (read name mode) reads at is = absurd cc
   peer_error peer (write name mode) reads at is = absurd cc
   peer_error peer (data_block n body) reads at is = absurd cc
@@ -61,11 +63,13 @@ module _ (code host : ℕ) (from : Endpoint) (bytes : List ℕ) (ours : from.hos
   packet_error peer true p at reads is = peer_error (Some peer) p reads (eqb-true _ _ at) is
   packet_error peer false p at reads is = other_error p is
 
-  at_error : (peer : Option ℕ) (p : Packet) → decode_bytes bytes ≡ Ok p → client_input_at_port peer from.port p ≡ refusal code → IsError code host peer from bytes
+  at_error : (peer : Option ℕ) (p : Packet) → decode_bytes bytes ≡ Ok p → client_input_at_port peer from.port p ≡ refusal code →
+      IsError code host peer from bytes
   at_error None p reads is = peer_error None p reads tt is
   at_error (Some peer) p reads is = packet_error peer (from.port == peer) p refl reads is
 
-  decoded_error : (peer : Option ℕ) (answer : Result Packet PacketFault) → decode_bytes bytes ≡ answer → client_input_decoded peer from.port answer ≡ refusal code →
+  decoded_error : (peer : Option ℕ) (answer : Result Packet PacketFault) → decode_bytes bytes ≡ answer →
+      client_input_decoded peer from.port answer ≡ refusal code →
       IsError code host peer from bytes
   decoded_error peer (Ok p) reads is = at_error peer p reads is
   decoded_error peer (Err e) reads is = absurd cc
@@ -75,7 +79,8 @@ input_error_at : (code host : ℕ) (peer : Option ℕ) (from : Endpoint) (bytes 
 input_error_at code host peer from bytes true at is = decoded_error code host from bytes (eqb-true _ _ at) peer (decode_bytes bytes) refl is
 input_error_at code host peer from bytes false at is = absurd cc
 
-input_error : (code host : ℕ) (peer : Option ℕ) (from : Endpoint) (bytes : List ℕ) → client_input host peer from bytes ≡ refusal code → IsError code host peer from bytes
+input_error : (code host : ℕ) (peer : Option ℕ) (from : Endpoint) (bytes : List ℕ) → client_input host peer from bytes ≡ refusal code →
+    IsError code host peer from bytes
 input_error code host peer from bytes is = input_error_at code host peer from bytes (from.host == host) refl is
 
 -- ---- a client that fails by an ERROR
@@ -119,7 +124,8 @@ module _ (code : ℕ) (from : Endpoint) (bytes : List ℕ) (port : ℕ) (server 
   get_failed : (first : Bool) (verdict : Verdict) (to n : ℕ) (body : List ℕ) (rules : Ruleset) (misses : ℕ) →
       HasOrFails code from bytes (at_phase (asking (get rules) misses)) (get_answered first verdict to n body (at_phase (asking (get rules) misses)))
   get_failed true verdict to n body rules misses is =
-      took_failed to (receiver_data verdict n body receiver_start).receiver (receiver_data verdict n body receiver_start).result (at_phase (asking (get rules) misses)) code is
+      let a = receiver_data verdict n body receiver_start in
+      took_failed to a.receiver a.result (at_phase (asking (get rules) misses)) code is
   get_failed false verdict to n body rules misses is = inl is
 
   -- the ERROR fails the client
@@ -200,7 +206,8 @@ get_waits_failed recv.Over peer a c code is = absurd cc
 
 waits_failed : (code port : ℕ) (server : Endpoint) (phase : Phase) → (client_timeout (client_at port server phase)).client.phase ≡ failed (cause.Refused code) →
     phase ≡ failed (cause.Refused code)
-waits_failed code port server (asking operation misses) is = asks_failed (misses + 1 == MISSES) operation misses (client_at port server (asking operation misses)) code is
+waits_failed code port server (asking operation misses) is =
+    asks_failed (misses + 1 == MISSES) operation misses (client_at port server (asking operation misses)) code is
 waits_failed code port server (sending peer s) is =
     put_waits_failed (sender_timeout s).sender.state peer (sender_timeout s) (client_at port server (sending peer s)) code is
 waits_failed code port server (receiving peer r) is =
@@ -230,17 +237,20 @@ sent_other send.Running is = absurd cc
 sent_other send.Finished is = absurd cc
 sent_other send.TimedOut is = absurd cc
 
-refused_got : (at : RecvState) (code : ℕ) (c : Client) → state_of c ≡ state.Got → recv_state at ≡ state.Got → state_of (get_refused at code c).client ≡ state.Got
+refused_got : (at : RecvState) (code : ℕ) (c : Client) → state_of c ≡ state.Got → recv_state at ≡ state.Got →
+    state_of (get_refused at code c).client ≡ state.Got
 refused_got recv.Running code c got is = absurd cc
 refused_got recv.Complete code c got is = got
 refused_got recv.TimedOut code c got is = absurd cc
 refused_got recv.Over code c got is = got
 
-again_got : (last : Bool) (peer : ℕ) (r : Receiver) (c : Client) → recv_state r.state ≡ state.Got → state_of (get_sent peer (receiver_again last r) c).client ≡ state.Got
+again_got : (last : Bool) (peer : ℕ) (r : Receiver) (c : Client) → recv_state r.state ≡ state.Got →
+    state_of (get_sent peer (receiver_again last r) c).client ≡ state.Got
 again_got true peer r c is = is
 again_got false peer r c is = is
 
-block_got : (at : RecvState) (verdict : Verdict) (n : ℕ) (body : List ℕ) (peer : ℕ) (r : Receiver) (c : Client) → recv_state r.state ≡ state.Got → r.state ≡ at →
+block_got : (at : RecvState) (verdict : Verdict) (n : ℕ) (body : List ℕ) (peer : ℕ) (r : Receiver) (c : Client) → recv_state r.state ≡ state.Got →
+    r.state ≡ at →
     state_of (get_sent peer (receiver_data_in at verdict n body r) c).client ≡ state.Got
 block_got recv.Running verdict n body peer r c is at = let both : state.Running ≡ state.Got = sym (ap recv_state at) ∙ is in absurd cc
 block_got recv.Complete verdict n body peer r c is at = again_got (is_last_come n r) peer r c is
@@ -290,7 +300,8 @@ waits_got_in recv.TimedOut peer r c at is =
 waits_got_in recv.Over peer r c at is =
     subst (λ (x : RecvState). state_of (get_waited x peer (record { receiver = r; out = None }) c).client ≡ state.Got) (sym at) is
 
-waits_got : (port : ℕ) (server : Endpoint) (phase : Phase) → phase_state phase ≡ state.Got → state_of (client_timeout (client_at port server phase)).client ≡ state.Got
+waits_got : (port : ℕ) (server : Endpoint) (phase : Phase) → phase_state phase ≡ state.Got →
+    state_of (client_timeout (client_at port server phase)).client ≡ state.Got
 waits_got port server (asking operation misses) is = absurd cc
 waits_got port server (sending peer s) is = sent_other s.state is
 waits_got port server (receiving peer r) is = waits_got_in r.state peer r (client_at port server (receiving peer r)) refl is
@@ -316,7 +327,8 @@ sends_own : (port : ℕ) (packet : Option Packet) (c : Client) → IfSome (sends
 sends_own port None c = tt
 sends_own port (Some packet) c = refl
 
-took_own : (peer : ℕ) (r : Receiver) (result : Result (Option Packet) RecvFault) (c : Client) → IfSome (get_took peer r result c).out (λ o. o.from_port ≡ c.port)
+took_own : (peer : ℕ) (r : Receiver) (result : Result (Option Packet) RecvFault) (c : Client) →
+    IfSome (get_took peer r result c).out (λ o. o.from_port ≡ c.port)
 took_own peer r (Ok out) c = sends_own peer out c
 took_own peer r (Err e) c = refl
 
@@ -324,7 +336,8 @@ put_own : (first : Bool) (to : ℕ) (file : List ℕ) (c : Client) → IfSome (p
 put_own true to file c = refl
 put_own false to file c = tt
 
-get_own : (first : Bool) (verdict : Verdict) (to n : ℕ) (body : List ℕ) (c : Client) → IfSome (get_answered first verdict to n body c).out (λ o. o.from_port ≡ c.port)
+get_own : (first : Bool) (verdict : Verdict) (to n : ℕ) (body : List ℕ) (c : Client) →
+    IfSome (get_answered first verdict to n body c).out (λ o. o.from_port ≡ c.port)
 get_own true verdict to n body c = took_own to (receiver_data verdict n body receiver_start).receiver (receiver_data verdict n body receiver_start).result c
 get_own false verdict to n body c = tt
 
@@ -356,12 +369,14 @@ input_own port server (receiving peer r) (block n body) verdict from =
     took_own peer a.receiver a.result (client_at port server (receiving peer r))
 input_own port server (failed why) (block n body) verdict from = tt
 
-unless_own : (over : Bool) (verdict : Verdict) (from : Endpoint) (bytes : List ℕ) (c : Client) → IfSome (client_unless_over over verdict from bytes c).out (λ o. o.from_port ≡ c.port)
+unless_own : (over : Bool) (verdict : Verdict) (from : Endpoint) (bytes : List ℕ) (c : Client) →
+    IfSome (client_unless_over over verdict from bytes c).out (λ o. o.from_port ≡ c.port)
 unless_own true verdict from bytes c = tt
 unless_own false verdict from bytes c =
     input_own c.port c.server c.phase (client_input c.server.host (phase_peer c.phase) from bytes) verdict from.port
 
-pub datagram-own : (verdict : Verdict) (from : Endpoint) (bytes : List ℕ) (c : Client) → IfSome (client_datagram verdict from bytes c).out (λ o. o.from_port ≡ c.port)
+pub datagram-own : (verdict : Verdict) (from : Endpoint) (bytes : List ℕ) (c : Client) →
+    IfSome (client_datagram verdict from bytes c).out (λ o. o.from_port ≡ c.port)
 datagram-own verdict from bytes c = unless_own (is_over c) verdict from bytes c
 
 asks_own : (last : Bool) (operation : Operation) (misses : ℕ) (c : Client) → IfSome (asks_again last operation misses c).out (λ o. o.from_port ≡ c.port)
@@ -382,7 +397,8 @@ get_waits_own recv.Over peer a c = sends_own peer a.out c
 waits_own : (port : ℕ) (server : Endpoint) (phase : Phase) → IfSome (client_timeout (client_at port server phase)).out (λ o. o.from_port ≡ port)
 waits_own port server (asking operation misses) = asks_own (misses + 1 == MISSES) operation misses (client_at port server (asking operation misses))
 waits_own port server (sending peer s) = put_waits_own (sender_timeout s).sender.state peer (sender_timeout s) (client_at port server (sending peer s))
-waits_own port server (receiving peer r) = get_waits_own (receiver_timeout r).receiver.state peer (receiver_timeout r) (client_at port server (receiving peer r))
+waits_own port server (receiving peer r) =
+    get_waits_own (receiver_timeout r).receiver.state peer (receiver_timeout r) (client_at port server (receiving peer r))
 waits_own port server (failed why) = tt
 
 pub timeout-own : (c : Client) → IfSome (client_timeout c).out (λ o. o.from_port ≡ c.port)

@@ -11,10 +11,10 @@ use Rattle.archive_client.specs.Client.{Client, request_out, client_start, clien
 use Rattle.archive_model.specs.World.{Datagram, Opening, World, client_at, datagram_of, net_with, opened_with, taken_with, taken_if, asked_of, after_request, after_transfer, ends, Extends}
 use Rattle.archive_model.proofs.Places.{Has, Has-push, Has-last, either}
 use Rattle.archive_model.proofs.Sources.{timeout-takes, datagram-takes}
-use Rattle.archive_theorem.proofs.Claims.{Binds}
-use Rattle.archive_theorem.proofs.Invariant.{Holds}
-use Rattle.archive_theorem.proofs.ServerMoves.{begun_away}
-use Rattle.archive_theorem.proofs.Remaining.{ack_leaves}
+use Rattle.archive_theorem.proofs.Claim_Past.{Binds}
+use Rattle.archive_theorem.proofs.Claim_Invariant.{Holds}
+use Rattle.archive_theorem.proofs.Server_Moves.{begun_away}
+use Rattle.archive_theorem.proofs.Headline_Remains.{ack_leaves}
 use Rattle.archive_theorem.proofs.Error_Table.{IsHarmless, IsWith, Closes, AnswersAt, AnswersRequest, datagram-answers, timeout-answers, request-answers}
 use Rattle.archive_theorem.proofs.Error_Claims.{IsRefusal, Tells, Opens, TakesFrom, OnlyRecovers, ClosesFor, Changes}
 use Rattle.archive_theorem.proofs.Event_Cases.{Cases, nothing, begun, answers, transfers, acts, expires, waits, strayed, restarted, ended}
@@ -154,7 +154,8 @@ module _ (w v : World) (more : Extends w.past v.past) (request : v.server.reques
 client_sends : (w : World) (e : Endpoint) (out : Option Out) → e.host ≢ w.home.host → (d : Datagram) → Has (net_with e.host w.net out) d →
     Has w.net d ⊎ (d.source.host ≢ w.home.host)
 client_sends w e out away d has =
-    either (λ old. old) (λ (new : IsSent e.host out d). λ ours. away (ap (λ (x : Datagram). x.source.host) (sym new.same) ∙ ours)) (net_added e.host w.net out d has)
+    either (λ old. old) (λ (new : IsSent e.host out d). λ ours. away (ap (λ (x : Datagram). x.source.host) (sym new.same) ∙ ours))
+    (net_added e.host w.net out d has)
 
 -- ---- a request
 
@@ -180,7 +181,8 @@ module _ (w : World) (spare : ℕ) (grant : Grant) (d : Datagram) (other : spare
       })
       (answered.stays port t is)
 
-  opened_added : (added : Bool) (o x : Opening) → Has (opened_with added o w.opened) x → o.port ≢ w.server.request → Has w.opened x ⊎ (x.port ≢ w.server.request)
+  opened_added : (added : Bool) (o x : Opening) → Has (opened_with added o w.opened) x → o.port ≢ w.server.request →
+      Has w.opened x ⊎ (x.port ≢ w.server.request)
   opened_added true o x has apart =
       either (λ old. old) (λ (new : x ≡ o). λ same. apart (ap (λ (y : Opening). y.port) (sym new) ∙ same)) (Has-push w.opened o x has)
   opened_added false o x has apart = inl has

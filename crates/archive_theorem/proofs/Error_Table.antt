@@ -26,7 +26,7 @@ use Rattle.tws_file.specs.Names.{ruleset_named}
 use Rattle.tws_best.specs.Best.{Collected, collection_text}
 use Rattle.archive_table.specs.Table.{Table, Maps, Grant, all, no_memory, unkept, memory_verdict, End, Transfer, sending, receiving, TableAnswer, at_port, transfer_at, table_stays, replies, out_from, refusal_dgram, sends_from, opens_if, refuses, goes_on, closes, takes, map_of, has_slot, has_long_text, read_fits, read_with_slot, read_named, read_asked, write_with_slot, write_asked, request_by_packet, request_decoded, table_request, is_same, transfer_input_decoded, file_come, file_asked, block_answered, data_at, ack_at, sending_goes_on, receiving_goes_on, transfer_by_input, datagram_at, table_datagram, waits_at, timeout_at, table_timeout}
 use Rattle.archive_theorem.proofs.Keyed.{NewOrOld, IsApart, lookup-set, lookup-remove, lookup-removed, lookup-insert_entry}
-use Rattle.archive_theorem.proofs.Invariant.{exact_port}
+use Rattle.archive_theorem.proofs.Claim_Invariant.{exact_port}
 
 -- ---- what is no ERROR that ends a transfer
 
@@ -185,7 +185,8 @@ module _ (s : Table) (apart : IsApart at_port exact_port s.live) where
           takes = tt;
         }
 
-    takes_at : (maps : Maps) (file : List ℕ) (r : Receiver) (out : Option (List ℕ)) → IfSome out IsHarmless → AnswersAt port s (takes maps port t.peer file r out s)
+    takes_at : (maps : Maps) (file : List ℕ) (r : Receiver) (out : Option (List ℕ)) → IfSome out IsHarmless →
+        AnswersAt port s (takes maps port t.peer file r out s)
     takes_at maps file r out sends =
         let next : Transfer = record { peer = t.peer; end = receiving r } in
         record {
@@ -261,7 +262,8 @@ module _ (s : Table) (apart : IsApart at_port exact_port s.live) where
 
     -- ---- a time-out
 
-    receiver_at : (state : RecvState) (a : RecvAnswer) → IfSome a.out (λ p. p ≡ ack a.receiver.count) → AnswersAt port s (receiving_goes_on state port t.peer a s)
+    receiver_at : (state : RecvState) (a : RecvAnswer) → IfSome a.out (λ p. p ≡ ack a.receiver.count) →
+        AnswersAt port s (receiving_goes_on state port t.peer a s)
     receiver_at recv.Running a sends = goes_on_at (receiving a.receiver) (dgram_of a.out) (ack_out a.receiver.count a.out sends)
     receiver_at recv.Complete a sends = goes_on_at (receiving a.receiver) (dgram_of a.out) (ack_out a.receiver.count a.out sends)
     receiver_at recv.TimedOut a sends = closes_at (dgram_of a.out) (ack_out a.receiver.count a.out sends)
@@ -288,7 +290,8 @@ module _ (s : Table) (apart : IsApart at_port exact_port s.live) where
       other_at (ack n) = replies_at port from
       other_at (error code text) = stays_at port
 
-      packet_at : (p : Packet) → decode_bytes bytes ≡ Ok p → (same : Bool) → AnswersAt port s (transfer_by_input (input_of_packet same p) grant maps port from t s)
+      packet_at : (p : Packet) → decode_bytes bytes ≡ Ok p → (same : Bool) →
+          AnswersAt port s (transfer_by_input (input_of_packet same p) grant maps port from t s)
       packet_at p reads true = peer_at p reads
       packet_at p reads false = other_at p
 
@@ -303,7 +306,8 @@ module _ (s : Table) (apart : IsApart at_port exact_port s.live) where
   found_at (Some t) port is grant maps from bytes = decoded_at port t is grant maps from bytes (decode_bytes bytes) refl
 
   -- a datagram at a port
-  pub datagram-answers : (grant : Grant) (maps : Maps) (port : ℕ) (from : Endpoint) (bytes : List ℕ) → AnswersAt port s (table_datagram grant maps port from bytes s)
+  pub datagram-answers : (grant : Grant) (maps : Maps) (port : ℕ) (from : Endpoint) (bytes : List ℕ) →
+      AnswersAt port s (table_datagram grant maps port from bytes s)
   datagram-answers grant maps port from bytes = found_at (transfer_at port s) port refl grant maps from bytes
 
   waits_found : (found : Option Transfer) (port : ℕ) → transfer_at port s ≡ found → AnswersAt port s (timeout_at found port s)

@@ -37,7 +37,8 @@ HoldsFile maps text =
 -- has fetched; for the last two, the ports of that client are its own.
 pub record HoldsPromised (w : World) (maps : Maps) : Type 0 where
   pub taken : (t : Taken) → Contains w.taken t → HoldsFile maps t.file
-  pub sent : (e : Endpoint) → IsOwn w e → Contains w.sent e → (b : Begun) (file : List ℕ) → Contains w.begun b → b.client ≡ e → b.operation ≡ put file → HoldsFile maps file
+  pub sent : (e : Endpoint) → IsOwn w e → Contains w.sent e → (b : Begun) (file : List ℕ) → Contains w.begun b → b.client ≡ e → b.operation ≡ put file →
+      HoldsFile maps file
   pub got : (g : Got) → IsOwn w g.client → Contains w.got g → HoldsFile maps g.file
 
 -- What these steps from a first world have promised is in what a keeper with this list loads.

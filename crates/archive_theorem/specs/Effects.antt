@@ -62,9 +62,14 @@ pub record IsFetchedOver (w : World) (g : Got) (count : ℕ) : Type 0 where
 -- What a get has fetched that ended before another began is over no more files than what the other has fetched.
 abbrev pub FetchesNoLess : World → (before after : List WorldStep) → WorldStep → Type 0
 FetchesNoLess w before after s =
-    (e : Endpoint) (rules : Ruleset) → s.event ≡ begin e (get rules) → IsOwn (run_from (before ++ s ∷ after) w) e → (g : Got) → Contains (run_from before w).got g → IsOwn (run_from before w) g.client → (h : Got) → Contains (run_from (before ++ s ∷ after) w).got h → h.client ≡ e → (m : ℕ) × (n : ℕ) × (m ≤ n) × IsFetchedOver (run_from (before ++ s ∷ after) w) g m × IsFetchedOver (run_from (before ++ s ∷ after) w) h n
+    (e : Endpoint) (rules : Ruleset) → s.event ≡ begin e (get rules) → IsOwn (run_from (before ++ s ∷ after) w) e → (g : Got) →
+    Contains (run_from before w).got g → IsOwn (run_from before w) g.client → (h : Got) → Contains (run_from (before ++ s ∷ after) w).got h → h.client ≡ e →
+    (m : ℕ) × (n : ℕ) × (m ≤ n) × IsFetchedOver (run_from (before ++ s ∷ after) w) g m × IsFetchedOver (run_from (before ++ s ∷ after) w) h n
 
 -- What a get has fetched that ended before a put began has nothing of that put.
 abbrev pub FetchesNone : World → (before after : List WorldStep) → WorldStep → Type 0
 FetchesNone w before after s =
-    (e : Endpoint) (file : List ℕ) → s.event ≡ begin e (put file) → e.host ≢ w.home.host → is_too_long (put file) ≡ false → IsOwn (run_from (before ++ s ∷ after) w) e → (g : Got) → Contains (run_from before w).got g → IsOwn (run_from before w) g.client → (count : ℕ) × IsFetchedOver (run_from (before ++ s ∷ after) w) g count × ((t : Taken) → Contains (take count (run_from (before ++ s ∷ after) w).taken) t → t.peer ≡ e → ⊥)
+    (e : Endpoint) (file : List ℕ) → s.event ≡ begin e (put file) → e.host ≢ w.home.host → is_too_long (put file) ≡ false →
+    IsOwn (run_from (before ++ s ∷ after) w) e → (g : Got) → Contains (run_from before w).got g → IsOwn (run_from before w) g.client →
+    (count : ℕ) × IsFetchedOver (run_from (before ++ s ∷ after) w) g count × ((t : Taken) → Contains (take count (run_from (before ++ s ∷ after) w).taken) t →
+    t.peer ≡ e → ⊥)

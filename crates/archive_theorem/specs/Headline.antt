@@ -57,7 +57,8 @@ pub record TakenOnce (past : Past) : Type 0 where
   pub known : (t : Taken) → Contains past.taken t → HasOperation past.begun t.peer ⊎ IsStrayFrom past.strays t.peer
   pub unchanged : (t : Taken) → Contains past.taken t → HasOperation past.begun t.peer →
       (b : Begun) × Contains past.begun b × (b.client ≡ t.peer) × (b.operation ≡ put t.file)
-  pub once : (i j : ℕ) (t u : Taken) → slice_get past.taken i ≡ Some t → slice_get past.taken j ≡ Some u → HasOperation past.begun t.peer → t.peer ≡ u.peer → i ≡ j
+  pub once : (i j : ℕ) (t u : Taken) → slice_get past.taken i ≡ Some t → slice_get past.taken j ≡ Some u → HasOperation past.begun t.peer → t.peer ≡ u.peer →
+      i ≡ j
 
 -- A file that a client counts as sent is taken exactly once: there is a put at its endpoint, and only that one file is
 -- taken from there.

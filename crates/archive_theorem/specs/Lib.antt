@@ -8,3 +8,4 @@ pub mod Freeing
 pub mod Progress
 pub mod Patience
 pub mod Errors
+pub mod Error_Samples

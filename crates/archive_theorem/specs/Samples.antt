@@ -93,7 +93,8 @@ abbrev pub strange_put : List WorldStep
 strange_put =
     steps_of 90
     (begin (sample_client 1) (put (sample_file 100)) ∷ deliver 0 4000 ∷ stray_by stranger 4000 (0 ∷ 4 ∷ 0 ∷ 1 ∷ []) ∷ deliver 2 0
-    ∷ stray_by stranger 6969 write_request ∷ deliver 4 4001 ∷ stray_by stranger 4001 (0 ∷ 3 ∷ 0 ∷ 1 ∷ sample_file 90) ∷ deliver 6 0 ∷ deliver 1 0 ∷ deliver 8 0 ∷ deliver 9 0 ∷ [])
+    ∷ stray_by stranger 6969 write_request ∷ deliver 4 4001 ∷ stray_by stranger 4001
+    (0 ∷ 3 ∷ 0 ∷ 1 ∷ sample_file 90) ∷ deliver 6 0 ∷ deliver 1 0 ∷ deliver 8 0 ∷ deliver 9 0 ∷ [])
 
 -- The server restarts between a put and a get.
 abbrev pub restart_between : List WorldStep

@@ -80,7 +80,8 @@ trace_from (m ∷ ms) w = trace_from ms (after_deed m.deed m.grant m.maps w)
 -- If the deed takes a file, that file has made the collections after it.
 abbrev pub DeedMerged : Member → World → Type 0
 DeedMerged m w =
-    (t : Taken) → (after_deed m.deed m.grant m.maps w).taken ≡ w.taken ++ t ∷ [] → IsMerged t.file w.server.maps (after_deed m.deed m.grant m.maps w).server.maps
+    (t : Taken) → (after_deed m.deed m.grant m.maps w).taken ≡ w.taken ++ t ∷ [] →
+    IsMerged t.file w.server.maps (after_deed m.deed m.grant m.maps w).server.maps
 
 abbrev pub AllDeedsMerged : List Member → World → Type 0
 AllDeedsMerged [] w = Unit {0}

@@ -4,7 +4,7 @@ ghost use Rattle.std.specs.Prelude.{◌≡◌, ◌≢◌, ℕ, ◌≤◌, true, 
 ghost use Rattle.archive_theorem.specs.Samples.{request_twice, late_ack, crossed_get, unanswered, strange_put, restart_between, empty_put, empty_get, barred_strays, opened_again, reused_elsewhere, begun_twice, opened_twice, strayed_there, FailsBy, sample_client, summary_of, sample_opening, one_put_summary, no_file_summary, crossed_get_summary, strange_put_summary, restart_summary, empty_put_summary, empty_get_summary};
 ghost use Rattle.tftp_packet.specs.declared.endpoint.Endpoint.{Endpoint};
 ghost use Rattle.tftp_packet.specs.declared.cause.Cause.{Cause};
-ghost use Rattle.tftp_packet.specs.declared.cause.Cause.TheVariants.{Refused};
+ghost use Rattle.tftp_packet.specs.declared.cause.Cause.TheVariants.{Refused, TimedOut};
 ghost use Rattle.archive_client.specs.Client.{Operation, put, is_too_long};
 ghost use Rattle.archive_theorem.specs.Reuse.{BeginKeepsOwn, OpeningKeepsOwn, StrayKeepsOwn, IsOwnByTests};
 ghost use Rattle.archive_model.specs.World.{Begun, Datagram, Got, Opening, to_write, World, Event, WorldStep, AreOver, Origin, empty_origin, RunFrom, first_world, last_world, happens, start, run, run_from, HasMerged, AllMerged, asked_by, AllMayHappen};
@@ -16,6 +16,7 @@ ghost use Rattle.archive_table.specs.Keeper.{Keeping, LoadedFrom};
 ghost use Rattle.archive_model.specs.Restarts.{HasKept, HaveOwnRuleset, LoadsAs, kept_texts, StepStaysKept, LoadsTheSame, FailsOutside, RunKeeps, RestartsFrom};
 ghost use Rattle.archive_theorem.specs.Effects.{TakesEffect, ReadsAtOnce, FetchesNoLess, FetchesNone};
 ghost use Rattle.archive_theorem.specs.Errors.{HasFailed, IsNotTaken, IsTakenAtMostOnce, HasFetchedNothing};
+ghost use Rattle.archive_theorem.specs.Error_Samples.{unkept_put, found_put, late_put, stale_put, put_taken, PutFails};
 ghost use Rattle.archive_theorem.specs.Freeing.{IsFreed};
 ghost use Rattle.archive_theorem.specs.Patience.{IsHeld, HoldsByBlocks};
 ghost use Rattle.archive_theorem.specs.Progress.{CanPut, IsUnstuck, CanGet, GetIsUnstuck};
@@ -109,8 +110,18 @@ pub fn error_law()
         HasFailed (run_from before (first_world o)) e why → IsOwn (last_world r) e → HasFetchedNothing (last_world r).past e }
 {}
 
-/// No place of the server is held without blocks from the peer. In any stretch of a run over which one transfer is at a port, the
-/// port times out fewer than `MISSES` times, and `MISSES` times for each block of the transfer that is received or acknowledged there.
+/// Some runs in which a put fails: its file is not kept; it is not known whether it is kept, and the next start finds it; its DATA
+/// arrives after the client has given up; and its file is taken before an ERROR 5. So the exceptions of `error_law` are needed.
+pub fn error_runs()
+    ensures unkept { PutFails unkept_put (Refused 0) [] [] }
+    ensures found { PutFails found_put (Refused 0) put_taken put_taken }
+    ensures late { PutFails late_put TimedOut put_taken [] }
+    ensures stale { PutFails stale_put (Refused 5) put_taken [] }
+{}
+
+/// No place of the server is held without its peer's datagrams. In any stretch of a run over which one transfer is at a port, the
+/// port times out fewer than `MISSES` times, and `MISSES` times for each block that is received or acknowledged there meanwhile; and
+/// each such block takes a datagram from the peer.
 pub fn places_law()
     ensures { (o : Origin) (r : RunFrom o) (before after : List WorldStep) → r.steps ≡ before ++ after → (port : ℕ) →
         IsHeld port after (run_from before (first_world o)) → HoldsByBlocks port (run_from before (first_world o)) after }

@@ -19,12 +19,12 @@ use Rattle.archive_world.specs.Inside.{ReceivesAtPort}
 use Rattle.tws_best.specs.Best.{Collected}
 use Rattle.archive_world.specs.Replays.{KeepsOnly, Changes, IsDue, Makes, Reuses}
 use Rattle.archive_world.specs.Exits.{Comes}
-use Rattle.archive_theorem.proofs.Remaining.{Remain, client_remains, request_remains}
-use Rattle.archive_theorem.proofs.Reusing.{opening-keeps_own}
+use Rattle.archive_theorem.proofs.Headline_Remains.{Remain, client_remains, request_remains}
+use Rattle.archive_theorem.proofs.Port_Tests.{opening-keeps_own}
 use Rattle.archive_model.proofs.Endpoints.{endpoint_is}
-use Rattle.archive_theorem.proofs.Totality.{not_more, one_last}
+use Rattle.archive_theorem.proofs.Headline_Total.{not_more, one_last}
 use Rattle.archive_world.proofs.Exiting.{no_restart, remain-merged, stays-there}
-use Rattle.archive_theorem.proofs.Tracing.{delivers_fits}
+use Rattle.archive_theorem.proofs.Trace_Runs.{delivers_fits}
 
 -- ---- a keeper that had a log still has it
 

@@ -19,12 +19,12 @@ use Rattle.tws_best.specs.Best.{IsCollected}
 use Rattle.archive_world.specs.Replays.{Makes}
 use Rattle.archive_world.specs.Exits.{StaysThere, Comes}
 use Rattle.archive_model.proofs.Growing.{step-extends}
-use Rattle.archive_theorem.proofs.RequestPort.{run_same}
-use Rattle.archive_theorem.proofs.Collecting.{best-collected}
-use Rattle.archive_theorem.proofs.Remaining.{Remain, begins_remain, waits_remain, strays_remain, timeout_leaves}
-use Rattle.archive_theorem.proofs.Reusing.{begin-keeps_own, stray-keeps_own}
-use Rattle.archive_theorem.proofs.Totality.{not_more}
-use Rattle.archive_theorem.proofs.Tracing.{begins_fits}
+use Rattle.archive_theorem.proofs.Server_Port.{run_same}
+use Rattle.tws_best.proofs.Collections.{best-collected}
+use Rattle.archive_theorem.proofs.Headline_Remains.{Remain, begins_remain, waits_remain, strays_remain, timeout_leaves}
+use Rattle.archive_theorem.proofs.Port_Tests.{begin-keeps_own, stray-keeps_own}
+use Rattle.archive_theorem.proofs.Headline_Total.{not_more}
+use Rattle.archive_theorem.proofs.Trace_Runs.{begins_fits}
 use Rattle.archive_model.proofs.Entries.{strays_fits}
 
 -- an event leaves the server where it is
@@ -242,7 +242,8 @@ module _ (w v : World) (reported now : Option (List Keeping)) (same : now ≡ re
   restart-comes home request made = (
     (home, request),
     λ ready. let has = ready refl in
-        restart_makes (made has.log has.reports has.kept (best-collected Lynx _ w.server.maps.lynx has.best.lynx) (best-collected Ms _ w.server.maps.ms has.best.ms)),
+        restart_makes (made has.log has.reports has.kept (best-collected Lynx _ w.server.maps.lynx has.best.lynx)
+        (best-collected Ms _ w.server.maps.ms has.best.ms)),
   )
 
 -- the same for an event that equals this one

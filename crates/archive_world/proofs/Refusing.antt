@@ -13,13 +13,15 @@ use Rattle.tftp_ends.specs.Input.{Input, nothing, stray, refusal, acked, block}
 use Rattle.tws_file.specs.declared.«ruleset».Ruleset.{Ruleset}
 use Rattle.tws_file.specs.declared.«ruleset».Ruleset.TheVariants.{Lynx, Ms}
 use Rattle.tws_file.specs.Text.{File, IsReadable}
-use Rattle.tws_best.specs.Best.{KeyedBody, Collected, solutions_of}
+use Rattle.tws_best.specs.Best.{Collected, solutions_of}
 use Rattle.tws_best.proofs.Bests.{one_map}
+use Rattle.tws_best.proofs.Merges.{same_collected}
 use Rattle.archive_table.specs.declared.step_event.StepEvent.{StepEvent}
 use Rattle.archive_table.specs.Table.{Table, Maps, Transfer, Taken, Step, TableAnswer, End, sending, receiving, Grant, all, unkept, transfer_input, out_from, file_asked, block_answered, data_at, transfer_by_input, datagram_at, IsFileMerge, MergesIntoOwn, IsMerged}
 use Rattle.archive_table.specs.Events.{IsDataEvent, IsInputEvent, IsDatagramEvent, TakesAs}
-use Rattle.archive_theorem.proofs.Readability.{readable_or_not}
-use Rattle.archive_theorem.proofs.Remaining.{ack_leaves}
+use Rattle.tws_reader.proofs.Readability.{readable_or_not}
+use Rattle.archive_theorem.proofs.Keeper_Runs.{maps-are}
+use Rattle.archive_theorem.proofs.Headline_Remains.{ack_leaves}
 use Rattle.archive_world.specs.Ending.{improves}
 use Rattle.archive_world.proofs.Delivering.{none_some}
 
@@ -111,18 +113,11 @@ module _ (file : List ℕ) (old new : Maps) (event : StepEvent) (took : TakesAs 
 
 one_collected : (file : File) (old a b : Collected) → IsFileMerge file old a → IsFileMerge file old b → a ≡ b
 one_collected file old a b first second =
-    let make : Ruleset → List KeyedBody → Collected = λ r es. record { «ruleset» = r; entries = es } in
-    let rules : a.«ruleset» ≡ b.«ruleset» = first.rules ∙ sym second.rules in
-    let entries : a.entries ≡ b.entries =
-    one_map (Contains (old.entries ++ solutions_of old.«ruleset» (file ∷ []))) a.entries b.entries first.best second.best in
-    let whole : make a.«ruleset» a.entries ≡ make b.«ruleset» b.entries = cc in
-    whole
+    same_collected a b (first.rules ∙ sym second.rules)
+    (one_map (Contains (old.entries ++ solutions_of old.«ruleset» (file ∷ []))) a.entries b.entries first.best second.best)
 
 pub both_maps : (a b : Maps) → a.lynx ≡ b.lynx → a.ms ≡ b.ms → a ≡ b
-both_maps a b lynx ms =
-    let make : Collected → Collected → Maps = λ x y. record { lynx = x; ms = y } in
-    let whole : make a.lynx a.ms ≡ make b.lynx b.ms = cc in
-    whole
+both_maps a b lynx ms = maps-are b.lynx b.ms a (sym lynx) (sym ms)
 
 one_own : (rules : Ruleset) (file : File) (old a b : Maps) → MergesIntoOwn rules file old a → MergesIntoOwn rules file old b → a ≡ b
 one_own Lynx file old a b first second = both_maps a b (one_collected file old.lynx a.lynx b.lynx first.0 second.0) (first.1 ∙ sym second.1)

@@ -18,14 +18,14 @@ use Rattle.archive_world.specs.View.{event_of, events_of}
 use Rattle.archive_world.specs.Outcomes.{Outcome, outcome_of}
 use Rattle.archive_world.specs.Replays.{KeepsOnly, HaveKept, IsDue, AllDue, HasHappened, Makes, starts_again, IsReady, HasRun, IsBadAt, IsReusedAt, IsNotKeptAt, IsNotLoadedAt, HasStopped}
 use Rattle.archive_world.specs.Exits.{KeeperHas, MakesKept, LoadsNone, Comes, world_fault_of, ReplayEnds}
-use Rattle.archive_theorem.proofs.Collecting.{last-best}
-use Rattle.archive_theorem.proofs.Concluding.{run-headline}
-use Rattle.archive_theorem.proofs.Happening.{run-append, may-append}
+use Rattle.archive_theorem.proofs.Headline_Collections.{last-best}
+use Rattle.archive_theorem.proofs.Headline_Clients.{run-headline}
+use Rattle.archive_theorem.proofs.Event_Happens.{run-append, may-append}
 use Rattle.archive_model.proofs.Places.{Has-contains}
-use Rattle.archive_theorem.proofs.Persisting.{has-kept}
-use Rattle.archive_theorem.proofs.Loading.{start-kept}
-use Rattle.archive_theorem.proofs.Reusing.{start-own}
-use Rattle.archive_theorem.proofs.Tracing.{merged_append}
+use Rattle.archive_theorem.proofs.Keeper_Runs.{has-kept}
+use Rattle.archive_theorem.proofs.Keeper_Loads.{start-kept}
+use Rattle.archive_theorem.proofs.Port_Tests.{start-own}
+use Rattle.archive_theorem.proofs.Trace_Runs.{merged_append}
 
 -- ---- two runs as one
 

@@ -7,7 +7,7 @@ use Rattle.archive_table.specs.Keeper.{HasLoaded, Keeping, StepKeeps, LoadedFrom
 use Rattle.tws_best.specs.Best.{Collected, IsCollected}
 use Rattle.tws_file.specs.declared.«ruleset».Ruleset.TheVariants.{Lynx, Ms}
 use Rattle.archive_model.specs.Restarts.{HasKept}
-use Rattle.archive_theorem.proofs.Loading.{loads-the_same}
+use Rattle.archive_theorem.proofs.Keeper_Loads.{loads-the_same}
 use Rattle.archive_model.specs.World.{Datagram, World, after_transfer, restarts}
 use Rattle.archive_world.specs.Inside.{ReceivesAtPort}
 

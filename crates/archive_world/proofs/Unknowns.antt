@@ -16,12 +16,13 @@ use Rattle.archive_model.specs.World.{Datagram, Event, World, WorldStep, server_
 use Rattle.archive_model.specs.Restarts.{HasKept}
 use Rattle.archive_model.proofs.Sources.{wanted-completes}
 use Rattle.archive_theorem.specs.Headline.{HasOwnPorts}
-use Rattle.archive_theorem.proofs.Invariant.{AreBest}
-use Rattle.archive_theorem.proofs.Remaining.{TakesOrLeaves, found_takes}
-use Rattle.archive_theorem.proofs.Totality.{not_more, one_last}
-use Rattle.archive_theorem.proofs.Collecting.{best-collected, step-best}
-use Rattle.archive_theorem.proofs.Loading.{step-stays_kept}
-use Rattle.archive_theorem.proofs.Persisting.{own-ruleset}
+use Rattle.archive_theorem.proofs.Claim_Invariant.{AreBest}
+use Rattle.archive_theorem.proofs.Headline_Remains.{TakesOrLeaves, found_takes}
+use Rattle.archive_theorem.proofs.Headline_Total.{not_more, one_last}
+use Rattle.tws_best.proofs.Collections.{best-collected}
+use Rattle.archive_theorem.proofs.Headline_Collections.{step-best}
+use Rattle.archive_theorem.proofs.Keeper_Loads.{step-stays_kept}
+use Rattle.archive_theorem.proofs.Keeper_Runs.{own-ruleset}
 use Rattle.archive_world.specs.declared.event_fault.EventFault.{EventFault}
 use Rattle.archive_world.specs.declared.event_fault.EventFault.TheVariants as fault
 use Rattle.archive_world.specs.Replays.{Changes, WouldChange, Makes}
@@ -171,7 +172,8 @@ module _ (d : Datagram) (w : World) (s : Table) (step : Reported)
           request = ap (λ (x : World). x.server.request) u_is ∙ request;
           is = ap restarts u_is
               ∙ ap (λ (p : ℕ). make p server_endpoint.host (Some (out_from d.target.port t.peer (refusal_packet NotKept)))) request
-              ∙ ap (λ (h : ℕ). make w.server.request h (Some (out_from d.target.port t.peer (refusal_packet NotKept)))) (sym (ap (λ (e : Endpoint). e.host) home))
+              ∙ ap (λ (h : ℕ). make w.server.request h (Some (out_from d.target.port t.peer (refusal_packet NotKept))))
+              (sym (ap (λ (e : Endpoint). e.host) home))
               ∙ ap (make w.server.request w.home.host) (sym out);
           keeps = subst (λ (m : Maps). KeepsMaps w.server.maps m before after) (sym (ap (λ (x : World). x.server.maps) u_is))
               (subst (λ (g : Grant). StepKeeps g (completed d w) w.server.maps s.maps before after) whole.0 keeps);
@@ -197,7 +199,8 @@ module _ (d : Datagram) (w : World) (s : Table) (step : Reported)
   -- ---- it does not find it
 
   module _ (keeps : StepKeeps grant (completed d w) w.server.maps s.maps (Some []) (Some [])) (log : Option (List Keeping)) where
-    lost_ends : TakesNone step fault.NotKept → (u : World) → u ≡ record stepped { past = record stepped.past { net = net_with server_endpoint.host w.net step.out } } →
+    lost_ends : TakesNone step fault.NotKept → (u : World) →
+        u ≡ record stepped { past = record stepped.past { net = net_with server_endpoint.host w.net step.out } } →
         Ends false d log log w u
     lost_ends none u u_is =
         let lost : grant ≡ unkept = by_unkept grant none.1 in
@@ -282,7 +285,8 @@ module _ (w v : World) (d : Datagram) (index : ℕ) (there : slice_get w.net ind
   away-bad found log away =
       (refl, λ may due. away_none ⊥ (λ file is. away (wanted-completes w d file is).ours) may)
 
-  pub request-bad : (found : Bool) (log : Option (List Keeping)) → d.target.port ≡ w.server.request → Comes (Err fault.Bad) (unknown_keep index found) log log w v
+  pub request-bad : (found : Bool) (log : Option (List Keeping)) → d.target.port ≡ w.server.request →
+      Comes (Err fault.Bad) (unknown_keep index found) log log w v
   request-bad found log at =
       (refl, λ may due. away_none ⊥ (λ file is. (wanted-completes w d file is).other at) may)
 
@@ -364,7 +368,8 @@ module _ (w v : World) (d : Datagram) (index : ℕ) (there : slice_get w.net ind
               let last = adds has.log has.reports in
               let best : AreBest mid.taken mid.server.maps =
               subst (λ (x : World). AreBest x.taken x.server.maps) (sym restarted_is) (step-best w step merged_by has.best) in
-              let kept = step-stays_kept all None w.server.maps mid.server.maps has.log last.0 last.2 (inl refl) (own-ruleset mid.taken mid.server.maps best) has.kept in
+              let kept =
+              step-stays_kept all None w.server.maps mid.server.maps has.log last.0 last.2 (inl refl) (own-ruleset mid.taken mid.server.maps best) has.kept in
               let same = loads last.0 last.1 kept (best-collected Lynx _ mid.server.maps.lynx best.lynx) (best-collected Ms _ mid.server.maps.ms best.ms) in
               subst (λ (x : World). Makes event before now w x) (sym same)
               (subst (λ (o : Option (List Keeping)). Makes event before o w (restarts mid)) (sym now_is) makes),

@@ -9,7 +9,7 @@ use Rattle.archive_world.specs.declared.world_fault.WorldFault.TheVariants as wo
 use Rattle.archive_model.specs.World.{Event, begin, deliver, client_times_out, server_times_out, stray, restart, unknown_keep, World, MayHappen}
 use Rattle.archive_theorem.specs.Headline.{HasOwnPorts}
 use Rattle.archive_model.specs.Restarts.{HasKept}
-use Rattle.archive_theorem.proofs.Invariant.{AreBest}
+use Rattle.archive_theorem.proofs.Claim_Invariant.{AreBest}
 use Rattle.archive_world.specs.Replays.{HasHappened, IsDue, Makes, Reuses, starts_again, IsBadAt, IsReusedAt, IsNotKeptAt, IsNotLoadedAt, HasStopped}
 
 -- the keeper has a log, and what it has is what the server has

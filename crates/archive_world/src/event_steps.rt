@@ -166,7 +166,8 @@ pub(crate) fn request<A: Allocator + Copy>(
     ensures loads { result ≢ Err EventFault.NotLoaded }
     ensures step { IfOk result (λ opened. opened ≡ (table_request (request_verdict opened) spare d.now.source d.now.bytes machine.old.server).step.opened) }
     ensures opens { result ≡ Err EventFault.Reused → (table_request granted spare d.now.source d.now.bytes machine.old.server).step.opened ≡ true }
-    ensures opened { result ≡ Err EventFault.Reused → machine.new ≡ after_request d.now.source spare (asked_of d.now.bytes) (table_request granted spare d.now.source d.now.bytes machine.old.server) machine.old }
+    ensures opened { result ≡ Err EventFault.Reused →
+        machine.new ≡ after_request d.now.source spare (asked_of d.now.bytes) (table_request granted spare d.now.source d.now.bytes machine.old.server) machine.old }
 {
     if spare == SERVER.port || machine.is_live(spare) {
         return Err(EventFault::Bad);
@@ -194,7 +195,8 @@ pub(crate) fn restart<K: Keeper, A: Allocator + Copy>(
     keeper: &mut K,
 ) -> Result<(), LoadFault>
     requires request { machine.old.server.request ≡ server_endpoint.port }
-    ensures made { OnOk result ((log : List Keeping) → K.calls keeper.old ≡ Some log → HasKept log machine.old.server.maps → IsCollected machine.old.server.maps.lynx → IsCollected machine.old.server.maps.ms → machine.new ≡ restarts machine.old) }
+    ensures made { OnOk result ((log : List Keeping) → K.calls keeper.old ≡ Some log → HasKept log machine.old.server.maps →
+        IsCollected machine.old.server.maps.lynx → IsCollected machine.old.server.maps.ms → machine.new ≡ restarts machine.old) }
     ensures home { OnOk result (machine.new.home ≡ machine.old.home) }
     ensures request { OnOk result (machine.new.server.request ≡ machine.old.server.request) }
     ensures calls { K.calls keeper.new ≡ K.calls keeper.old }

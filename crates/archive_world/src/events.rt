@@ -20,7 +20,8 @@ use std::alloc::Allocator;
 fn receive<A: Allocator + Copy>(machine: &mut Machine<A>, d: &Datagram<A>) -> Result<(), EventFault>
     requires home { machine.old.home ≡ server_endpoint }
     requires away { d.now.target.host ≢ server_endpoint.host }
-    ensures { (reported : Option (List Keeping)) (index spare : ℕ) → slice_get machine.old.net index ≡ Some d.now → Comes result (deliver index spare) reported reported machine.old machine.new }
+    ensures { (reported : Option (List Keeping)) (index spare : ℕ) → slice_get machine.old.net index ≡ Some d.now →
+        Comes result (deliver index spare) reported reported machine.old machine.new }
 {
     match machine.client_receive(d) {
         Ok(()) => Ok(()),
@@ -38,7 +39,8 @@ fn ask<A: Allocator + Copy>(
     requires request { machine.old.server.request ≡ server_endpoint.port }
     requires ours { d.now.target.host ≡ server_endpoint.host }
     requires at { d.now.target.port ≡ server_endpoint.port }
-    ensures { (reported : Option (List Keeping)) (index : ℕ) → slice_get machine.old.net index ≡ Some d.now → Comes result (deliver index spare) reported reported machine.old machine.new }
+    ensures { (reported : Option (List Keeping)) (index : ℕ) → slice_get machine.old.net index ≡ Some d.now →
+        Comes result (deliver index spare) reported reported machine.old machine.new }
 {
     match request(machine, spare, d) {
         Ok(_) => Ok(()),
@@ -56,7 +58,8 @@ fn transfer<K: Keeper, A: Allocator + Copy>(
     requires request { machine.old.server.request ≡ server_endpoint.port }
     requires ours { d.now.target.host ≡ server_endpoint.host }
     requires other { d.now.target.port ≢ server_endpoint.port }
-    ensures { (index spare : ℕ) → slice_get machine.old.net index ≡ Some d.now → Comes result (deliver index spare) (K.calls keeper.old) (K.calls keeper.new) machine.old machine.new }
+    ensures { (index spare : ℕ) → slice_get machine.old.net index ≡ Some d.now →
+        Comes result (deliver index spare) (K.calls keeper.old) (K.calls keeper.new) machine.old machine.new }
 {
     match machine.transfer(keeper, d) {
         Ok(()) => Ok(()),
@@ -73,7 +76,8 @@ fn arrive<K: Keeper, A: Allocator + Copy>(
 ) -> Result<(), EventFault>
     requires home { machine.old.home ≡ server_endpoint }
     requires request { machine.old.server.request ≡ server_endpoint.port }
-    ensures { (index : ℕ) → slice_get machine.old.net index ≡ Some d.now → Comes result (deliver index spare) (K.calls keeper.old) (K.calls keeper.new) machine.old machine.new }
+    ensures { (index : ℕ) → slice_get machine.old.net index ≡ Some d.now →
+        Comes result (deliver index spare) (K.calls keeper.old) (K.calls keeper.new) machine.old machine.new }
 {
     let to = d.to;
     if to.host != SERVER.host {
@@ -131,7 +135,8 @@ fn end_there<K: Keeper, A: Allocator + Copy>(
     requires request { machine.old.server.request ≡ server_endpoint.port }
     requires ours { d.now.target.host ≡ server_endpoint.host }
     requires other { d.now.target.port ≢ server_endpoint.port }
-    ensures { (index : ℕ) → slice_get machine.old.net index ≡ Some d.now → Comes result (unknown_keep index found) (K.calls keeper.old) (K.calls keeper.new) machine.old machine.new }
+    ensures { (index : ℕ) → slice_get machine.old.net index ≡ Some d.now →
+        Comes result (unknown_keep index found) (K.calls keeper.old) (K.calls keeper.new) machine.old machine.new }
 {
     match end(machine, keeper, found, d) {
         Ok(()) => {}
@@ -152,7 +157,8 @@ fn end_at<K: Keeper, A: Allocator + Copy>(
 ) -> Result<(), EventFault>
     requires home { machine.old.home ≡ server_endpoint }
     requires request { machine.old.server.request ≡ server_endpoint.port }
-    ensures { (index : ℕ) → slice_get machine.old.net index ≡ Some d.now → Comes result (unknown_keep index found) (K.calls keeper.old) (K.calls keeper.new) machine.old machine.new }
+    ensures { (index : ℕ) → slice_get machine.old.net index ≡ Some d.now →
+        Comes result (unknown_keep index found) (K.calls keeper.old) (K.calls keeper.new) machine.old machine.new }
 {
     let to = d.to;
     if to.host != SERVER.host {

@@ -35,7 +35,8 @@ fn happen_all<K: Keeper, A: Allocator + Copy>(
     events: &[Event<A>],
 ) -> Result<(), WorldFault>
     requires start { machine.old ≡ start }
-    ensures { IsReady (K.calls keeper.old) (events_of events.now) → ReplayEnds result (events_of events.now) (K.calls keeper.old) (K.calls keeper.new) machine.new }
+    ensures { IsReady (K.calls keeper.old) (events_of events.now) →
+        ReplayEnds result (events_of events.now) (K.calls keeper.old) (K.calls keeper.new) machine.new }
 {
     let mut i = 0;
     while i < events.len() {
@@ -61,12 +62,18 @@ pub fn replay<K: Keeper, A: Allocator + Copy>(
     keeper: &mut K,
     events: &[Event<A>],
 ) -> Result<Outcome<A>, WorldFault>
-    ensures ran { IfOk result (λ outcome. IsReady (K.calls keeper.old) (events_of events.now) → HasRun (events_of events.now) (K.calls keeper.old) (K.calls keeper.new) outcome) }
-    ensures bad { (i : ℕ) → result ≡ Err (WorldFault.BadEvent i) → IsReady (K.calls keeper.old) (events_of events.now) → IsBadAt (events_of events.now) (K.calls keeper.old) (K.calls keeper.new) i }
-    ensures reused { (i : ℕ) → result ≡ Err (WorldFault.PortReused i) → IsReady (K.calls keeper.old) (events_of events.now) → IsReusedAt (events_of events.now) (K.calls keeper.old) (K.calls keeper.new) i }
-    ensures not_kept { (i : ℕ) → result ≡ Err (WorldFault.NotKept i) → IsReady (K.calls keeper.old) (events_of events.now) → IsNotKeptAt (events_of events.now) (K.calls keeper.old) (K.calls keeper.new) i }
-    ensures not_loaded { (i : ℕ) → result ≡ Err (WorldFault.NotLoaded i) → IsReady (K.calls keeper.old) (events_of events.now) → IsNotLoadedAt (events_of events.now) (K.calls keeper.old) (K.calls keeper.new) i }
-    ensures memory { result ≡ Err WorldFault.Memory → IsReady (K.calls keeper.old) (events_of events.now) → HasStopped (events_of events.now) (K.calls keeper.old) (K.calls keeper.new) }
+    ensures ran { IfOk result (λ outcome. IsReady (K.calls keeper.old) (events_of events.now) →
+        HasRun (events_of events.now) (K.calls keeper.old) (K.calls keeper.new) outcome) }
+    ensures bad { (i : ℕ) → result ≡ Err (WorldFault.BadEvent i) → IsReady (K.calls keeper.old) (events_of events.now) →
+        IsBadAt (events_of events.now) (K.calls keeper.old) (K.calls keeper.new) i }
+    ensures reused { (i : ℕ) → result ≡ Err (WorldFault.PortReused i) → IsReady (K.calls keeper.old) (events_of events.now) →
+        IsReusedAt (events_of events.now) (K.calls keeper.old) (K.calls keeper.new) i }
+    ensures not_kept { (i : ℕ) → result ≡ Err (WorldFault.NotKept i) → IsReady (K.calls keeper.old) (events_of events.now) →
+        IsNotKeptAt (events_of events.now) (K.calls keeper.old) (K.calls keeper.new) i }
+    ensures not_loaded { (i : ℕ) → result ≡ Err (WorldFault.NotLoaded i) → IsReady (K.calls keeper.old) (events_of events.now) →
+        IsNotLoadedAt (events_of events.now) (K.calls keeper.old) (K.calls keeper.new) i }
+    ensures memory { result ≡ Err WorldFault.Memory → IsReady (K.calls keeper.old) (events_of events.now) →
+        HasStopped (events_of events.now) (K.calls keeper.old) (K.calls keeper.new) }
 {
     let mut machine = Machine::new(alloc);
     match happen_all(&mut machine, keeper, events) {

@@ -18,11 +18,11 @@ use Rattle.archive_model.specs.World.{Opening, World, WorldStep, Origin, first_w
 use Rattle.archive_model.proofs.Growing.{step-adds}
 use Rattle.archive_model.proofs.Places.{Has-contains, IsPrefix-push, IsPrefix-same, take-prefix, length-prefix}
 use Rattle.archive_theorem.specs.Headline.{IsOwn, ClientsHeadline, IsFinishedGet, files_of}
-use Rattle.archive_theorem.proofs.Invariant.{AreBest, given_files}
-use Rattle.archive_theorem.proofs.Collecting.{last-best}
-use Rattle.archive_theorem.proofs.Concluding.{run-clients}
-use Rattle.archive_theorem.proofs.Happening.{run-append}
-use Rattle.archive_theorem.proofs.Tracing.{merged_append}
+use Rattle.archive_theorem.proofs.Claim_Invariant.{AreBest, given_files}
+use Rattle.archive_theorem.proofs.Headline_Collections.{last-best}
+use Rattle.archive_theorem.proofs.Headline_Clients.{run-clients}
+use Rattle.archive_theorem.proofs.Event_Happens.{run-append}
+use Rattle.archive_theorem.proofs.Trace_Runs.{merged_append}
 use Rattle.archive_mirrors.specs.Archives.{Archives, Copy, Event, takes, fetches, puts, puts_better, IsBetterPart, HasNothingBetter, skips, of_ruleset, at_archive, copy_of, with_text, MayHappen, AllMayHappen, run, outside_of}
 use Rattle.archive_mirrors.specs.Archives as archives
 use Rattle.archive_mirrors.proofs.Moving as moving
@@ -143,7 +143,8 @@ module _ (ws : ℕ → World) (events : List Event) (m : Matches ws events) wher
         fetched = c.1.fetched;
         own_fetched = o.1.fetched;
         own_is = o.1.archive_is ∙ own_is;
-        nothing = subst (λ (x : List ℕ). HasNothingBetter x o.0.text) (sym c.1.text_is) (subst (λ (y : List ℕ). HasNothingBetter f.got.file y) (sym o.1.text_is) none);
+        nothing = subst (λ (x : List ℕ). HasNothingBetter x o.0.text) (sym c.1.text_is)
+            (subst (λ (y : List ℕ). HasNothingBetter f.got.file y) (sym o.1.text_is) none);
       } in
       let whole = moving.run-append events (e ∷ []) archives.start in
       record {
@@ -232,7 +233,8 @@ module _ (ws : ℕ → World) (events : List Event) (m : Matches ws events) wher
       opened_now : (o : Opening) → o.taken ≡ length w.taken → OpenedCopy done s.archive next o
       opened_now o is =
           let whole_taken : take o.taken next.taken ≡ w.taken =
-          ap (λ (n : ℕ). take n next.taken) is ∙ take-prefix w.taken next.taken (length w.taken) taken_grows (omega arith) ∙ take_all (length w.taken) w.taken (omega arith) in
+          ap (λ (n : ℕ). take n next.taken) is ∙ take-prefix w.taken next.taken (length w.taken) taken_grows (omega arith) ∙ take_all (length w.taken) w.taken
+          (omega arith) in
           record {
             counted = omega (arith, is, length-prefix w.taken next.taken taken_grows);
             copies = λ rules. subst (λ (ts : List Taken). HasCopy done s.archive rules (files_of ts)) (sym whole_taken)
@@ -319,7 +321,8 @@ module _ (ws : ℕ → World) (events : List Event) (m : Matches ws events) wher
         let e = puts s.archive c.0 in
         let t = of.takes_it in (
           two ++ e ∷ [],
-          joined (e ∷ []) (copy_may f c.0 c.1, tt) (one_taken t.file c.0.text (λ rules. of_ruleset c.0.rules rules c.0.sources) t.is_taken (t.text_is ∙ sym c.1.text_is)),
+          joined (e ∷ []) (copy_may f c.0 c.1, tt)
+              (one_taken t.file c.0.text (λ rules. of_ruleset c.0.rules rules c.0.sources) t.is_taken (t.text_is ∙ sym c.1.text_is)),
           record { copy = c.0; is_copy = c.1; put = Contains-append_right two (e ∷ []) e (Contains-here e []) },
         )
     made (better f own) of =
@@ -328,7 +331,8 @@ module _ (ws : ℕ → World) (events : List Event) (m : Matches ws events) wher
         let e = puts_better s.archive c.0 o.0 of.text in
         let t = of.takes_it in
         let part : IsBetterPart c.0.text o.0.text of.text =
-        subst (λ (x : List ℕ). IsBetterPart x o.0.text of.text) (sym c.1.text_is) (subst (λ (y : List ℕ). IsBetterPart f.got.file y of.text) (sym o.1.text_is) of.part) in (
+        subst (λ (x : List ℕ). IsBetterPart x o.0.text of.text) (sym c.1.text_is)
+        (subst (λ (y : List ℕ). IsBetterPart f.got.file y of.text) (sym o.1.text_is) of.part) in (
           two ++ e ∷ [],
           joined (e ∷ [])
               (record { fetched = copy_may f c.0 c.1; own_fetched = copy_may own o.0 o.1; own_is = o.1.archive_is ∙ of.own_is; better = part }, tt)

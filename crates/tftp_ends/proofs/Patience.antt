@@ -28,7 +28,8 @@ ack_waited sending.TimedOut n s patient = omega arith
 pub sender_ack-waited : (n : ℕ) (s : Sender) → KeepsSenderWait n s
 sender_ack-waited n s is = ack_waited s.state n s is.patient
 
-missed_waited : (last : Bool) (s : Sender) → (sender_missed last s).sender.state ≡ sending.Running → sender_waited (sender_missed last s).sender ≡ sender_waited s + 1
+missed_waited : (last : Bool) (s : Sender) → (sender_missed last s).sender.state ≡ sending.Running →
+    sender_waited (sender_missed last s).sender ≡ sender_waited s + 1
 missed_waited true s runs = cc
 missed_waited false s runs = omega arith
 
@@ -43,7 +44,8 @@ sender_timeout-waited s = waited_in s.state s refl
 
 -- ---- the receiver
 
-takes_waited : (verdict : Verdict) (body : List ℕ) (r : Receiver) → r.misses < MISSES → receiver_waited r ≤ receiver_waited (receiver_takes verdict body r).receiver
+takes_waited : (verdict : Verdict) (body : List ℕ) (r : Receiver) → r.misses < MISSES →
+    receiver_waited r ≤ receiver_waited (receiver_takes verdict body r).receiver
 takes_waited granted body r patient = omega arith
 takes_waited refused body r patient = omega arith
 
@@ -89,4 +91,4 @@ timeout_waited receiving.TimedOut r is alive waits = absurd (alive is)
 timeout_waited receiving.Over r is alive waits = absurd (waits is)
 
 pub receiver_timeout-waited : (r : Receiver) → CountsReceiverWait r
-receiver_timeout-waited r = timeout_waited r.state r refl
+receiver_timeout-waited r waits = timeout_waited r.state r refl waits.0 waits.1

@@ -3,6 +3,7 @@
 use Rattle.std.specs.Prelude.{◌≡◌, ◌≢◌, ℕ, ◌+◌, ◌*◌, ◌≤◌, List}
 use Rattle.tftp_ends.specs.declared.limits.TheConstants.{MISSES}
 use Rattle.tftp_ends.specs.declared.send_state.SendState.TheVariants as sending
+use Rattle.tftp_ends.specs.declared.recv_state.RecvState.{RecvState}
 use Rattle.tftp_ends.specs.declared.recv_state.RecvState.TheVariants as receiving
 use Rattle.tftp_ends.specs.Ends.{Verdict, Sender, sender_ack, sender_timeout, IsSender, Receiver, receiver_data, receiver_timeout, IsReceiver}
 
@@ -25,7 +26,11 @@ abbrev pub KeepsReceiverWait : Verdict → (n : ℕ) (body : List ℕ) → Recei
 KeepsReceiverWait verdict n body r =
     IsReceiver r → receiver_waited r ≤ receiver_waited (receiver_data verdict n body r).receiver
 
+-- a receiver in this state has not ended
+abbrev pub IsWaiting : RecvState → Type 0
+IsWaiting state = (state ≢ receiving.TimedOut) × (state ≢ receiving.Over)
+
 -- a time-out after which the receiver still waits for a block raises it by one
 abbrev pub CountsReceiverWait : Receiver → Type 0
 CountsReceiverWait r =
-    (receiver_timeout r).receiver.state ≢ receiving.TimedOut → (receiver_timeout r).receiver.state ≢ receiving.Over → receiver_waited (receiver_timeout r).receiver ≡ receiver_waited r + 1
+    IsWaiting (receiver_timeout r).receiver.state → receiver_waited (receiver_timeout r).receiver ≡ receiver_waited r + 1

@@ -18,17 +18,22 @@ returns-clause-recorded g c = λ modelled.
     let draft-is = c.as_str-2.ensures.value ∙ c.in_ok-draft.ensures ∙ ap draft_of c.as_str.ensures.value in
     let number = c.in_ok-name.ensures.number in
     on_ok_weaker c.publish_file.result
-    (λ has. (number.0, adds_by g.F.Folder.model c.args.stem.now number.0 c.as_str-3.ensures.value draft-is number.1 (c.in_ok-name.ensures.free modelled) (c.free_name.ensures.same modelled)
-    (c.publish_file.ensures.others modelled) has.now,
-    subst (λ (name : List ℕ). Only (Some c.args.file.now) (g.F.Folder.model.leaves c.publish_file.new.folder name)) (c.as_str-3.ensures.value ∙ number.1) has.left))
+    (λ has. (
+      number.0,
+      adds_by g.F.Folder.model c.args.stem.now number.0 c.as_str-3.ensures.value draft-is number.1 (c.in_ok-name.ensures.free modelled) (c.free_name.ensures.same modelled)
+          (c.publish_file.ensures.others modelled) has.now,
+      subst (λ (name : List ℕ). Only (Some c.args.file.now) (g.F.Folder.model.leaves c.publish_file.new.folder name)) (c.as_str-3.ensures.value ∙ number.1) has.left,
+    ))
     (c.publish_file.ensures.kept modelled)
 
 pub returns-clause-unsynced : goal.returns-clause-unsynced
 returns-clause-unsynced g c = λ modelled is.
     let draft-is = c.as_str-2.ensures.value ∙ c.in_ok-draft.ensures ∙ ap draft_of c.as_str.ensures.value in
-    let number = c.in_ok-name.ensures.number in
-    (number.0, adds_by g.F.Folder.model c.args.stem.now number.0 c.as_str-3.ensures.value draft-is number.1 (c.in_ok-name.ensures.free modelled) (c.free_name.ensures.same modelled)
-    (c.publish_file.ensures.others modelled) (c.publish_file.ensures.unsynced modelled is).now)
+    let number = c.in_ok-name.ensures.number in (
+      number.0,
+      adds_by g.F.Folder.model c.args.stem.now number.0 c.as_str-3.ensures.value draft-is number.1 (c.in_ok-name.ensures.free modelled) (c.free_name.ensures.same modelled)
+          (c.publish_file.ensures.others modelled) (c.publish_file.ensures.unsynced modelled is).now,
+    )
 
 pub returns-clause-failed : goal.returns-clause-failed
 returns-clause-failed g c = λ modelled undoes.

@@ -1,7 +1,7 @@
-use Rattle.archive_theorem.proofs.Happening.{merged-as}
-use Rattle.archive_theorem.proofs.Effects.{puts-at, gets-at}
-use Rattle.archive_theorem.proofs.Fetching.{fetches-own_sent}
-use Rattle.archive_theorem.proofs.RealTime.{fetches-no_less, fetches-none}
+use Rattle.archive_theorem.proofs.Event_Happens.{merged-as}
+use Rattle.archive_theorem.proofs.Effect_Steps.{puts-at, gets-at}
+use Rattle.archive_theorem.proofs.Headline_Since.{fetches-own_sent}
+use Rattle.archive_theorem.proofs.Effect_Order.{fetches-no_less, fetches-none}
 use Rattle.archive_theorem.proofs.laws.effects_law.Goals as goal
 
 pub returns-clause-puts : goal.returns-clause-puts

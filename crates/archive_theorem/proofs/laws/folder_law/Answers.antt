@@ -1,8 +1,8 @@
-use Rattle.archive_theorem.proofs.Folders.{loaded-over, own-texts}
-use Rattle.archive_theorem.proofs.Enduring.{never-worse, loads-promised, cut-promised}
-use Rattle.archive_theorem.proofs.Freeing.{run_from-freed}
-use Rattle.archive_theorem.proofs.Finishing.{run_from-puts, run_from-unstuck}
-use Rattle.archive_theorem.proofs.GetFinishing.{run_from-gets, run_from-get_unstuck}
+use Rattle.archive_theorem.proofs.Keeper_Folders.{loaded-over, own-texts}
+use Rattle.archive_theorem.proofs.Keeper_Holds.{never-worse, loads-promised, cut-promised}
+use Rattle.archive_theorem.proofs.Progress_Frees.{run_from-freed}
+use Rattle.archive_theorem.proofs.Progress_Put.{run_from-puts, run_from-unstuck}
+use Rattle.archive_theorem.proofs.Progress_Get.{run_from-gets, run_from-get_unstuck}
 use Rattle.archive_theorem.proofs.laws.folder_law.Goals as goal
 
 pub returns-clause-loaded : goal.returns-clause-loaded

@@ -1,13 +1,13 @@
 use Rattle.std.proofs.Common.{List, subst}
 use Rattle.archive_model.specs.World.{WorldStep, empty_origin, first_world, run_from}
 use Rattle.archive_theorem.specs.Headline.{HasOwnPorts}
-use Rattle.archive_theorem.proofs.Happening.{merged-as}
-use Rattle.archive_theorem.proofs.Counting.{began-by}
-use Rattle.archive_theorem.proofs.Costs.{run-sends}
-use Rattle.archive_theorem.proofs.Entering.{strays-by}
-use Rattle.archive_theorem.proofs.Concluding.{run-clients, run-headline}
-use Rattle.archive_theorem.proofs.Fetching.{fetches-sent}
-use Rattle.archive_theorem.proofs.Totality.{run-total, run-one}
+use Rattle.archive_theorem.proofs.Event_Happens.{merged-as}
+use Rattle.archive_theorem.proofs.Headline_Begun.{began-by}
+use Rattle.archive_theorem.proofs.Headline_Costs.{run-sends}
+use Rattle.archive_theorem.proofs.Headline_Strays.{strays-by}
+use Rattle.archive_theorem.proofs.Headline_Clients.{run-clients, run-headline}
+use Rattle.archive_theorem.proofs.Headline_Since.{fetches-sent}
+use Rattle.archive_theorem.proofs.Headline_Total.{run-total, run-one}
 use Rattle.archive_theorem.proofs.laws.network_law.Goals as goal
 
 pub returns-clause-clients : goal.returns-clause-clients

@@ -1,7 +1,7 @@
 use Rattle.archive_model.specs.World.{happens}
-use Rattle.archive_theorem.proofs.Owning.{own-before, own-each, none_reused-before}
-use Rattle.archive_theorem.proofs.Reusing.{start-own, begin-keeps_own, opening-keeps_own, stray-keeps_own}
-use Rattle.archive_theorem.proofs.OwnEndpoints.{own-by_tests, start-own_each}
+use Rattle.archive_theorem.proofs.Claim_Owns.{own-before, own-each, none_reused-before}
+use Rattle.archive_theorem.proofs.Port_Tests.{start-own, begin-keeps_own, opening-keeps_own, stray-keeps_own}
+use Rattle.archive_theorem.proofs.Port_Endpoints.{own-by_tests, start-own_each}
 use Rattle.archive_model.proofs.Growing.{step-extends}
 use Rattle.archive_theorem.proofs.laws.own_ports.Goals as goal
 

@@ -1,6 +1,6 @@
-use Rattle.archive_theorem.proofs.Loading.{start-kept, step-stays_kept, own-loads, loads-as, loads-the_same}
-use Rattle.archive_theorem.proofs.Persisting.{has-kept, last-loads, restarts-from, run-fails}
-use Rattle.archive_theorem.proofs.Lists.{run-list}
+use Rattle.archive_theorem.proofs.Keeper_Loads.{start-kept, step-stays_kept, own-loads, loads-as, loads-the_same}
+use Rattle.archive_theorem.proofs.Keeper_Runs.{has-kept, last-loads, restarts-from, run-fails}
+use Rattle.archive_theorem.proofs.Keeper_Lists.{run-list}
 use Rattle.archive_theorem.proofs.laws.restart_law.Goals as goal
 
 pub returns-clause-start : goal.returns-clause-start

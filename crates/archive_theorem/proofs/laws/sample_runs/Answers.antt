@@ -1,7 +1,7 @@
-use Rattle.archive_theorem.proofs.Sampling.{request_twice-comes, late_ack-comes, crossed_get-comes, unanswered-comes, strange_put-comes, restart_between-comes, empty_put-comes, empty_get-comes, barred_strays-comes}
-use Rattle.archive_theorem.proofs.Premises.{empty_put-own, empty_put-merged}
-use Rattle.archive_theorem.proofs.SamplePremises.{crossed_get-meets, strange_put-meets, restart_between-meets, opened_again-breaks}
-use Rattle.archive_theorem.proofs.SampleReuse.{reused_elsewhere-comes, reused_elsewhere-meets, begun_twice-fails, opened_twice-fails, strayed_there-fails}
+use Rattle.archive_theorem.proofs.Sample_Runs.{request_twice-comes, late_ack-comes, crossed_get-comes, unanswered-comes, strange_put-comes, restart_between-comes, empty_put-comes, empty_get-comes, barred_strays-comes}
+use Rattle.archive_theorem.proofs.Sample_Put.{empty_put-own, empty_put-merged}
+use Rattle.archive_theorem.proofs.Sample_Premises.{crossed_get-meets, strange_put-meets, restart_between-meets, opened_again-breaks}
+use Rattle.archive_theorem.proofs.Sample_Reuse.{reused_elsewhere-comes, reused_elsewhere-meets, begun_twice-fails, opened_twice-fails, strayed_there-fails}
 use Rattle.archive_theorem.proofs.laws.sample_runs.Goals as goal
 
 pub returns-clause-twice : goal.returns-clause-twice

@@ -1,5 +1,5 @@
 use Rattle.archive_model.specs.World.{first_world}
-use Rattle.archive_theorem.proofs.Tracing.{trace-makes, trace-clients, trace-headline}
+use Rattle.archive_theorem.proofs.Trace_Runs.{trace-makes, trace-clients, trace-headline}
 use Rattle.archive_theorem.proofs.laws.trace_law.Goals as goal
 
 pub returns-clause-run : goal.returns-clause-run
