@@ -1,5 +1,5 @@
 -- What a page asks of one file or of two: a text of them, or why there is none.
-use Rattle.std.specs.Prelude.{◌≡◌, ◌≢◌, ℕ, List, [], ◌∷◌, ◌++◌, codes, decimal}
+use Rattle.std.specs.Prelude.{◌≡◌, ◌≢◌, ℕ, List, [], ◌∷◌, ◌++◌, codes}
 use Rattle.tws_file.specs.Text.{File, IsText}
 use Rattle.tws_file.specs.Fault.{HasFileFault}
 use Rattle.tws_file.specs.Words.{fault_words}
