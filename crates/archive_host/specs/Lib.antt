@@ -1,3 +1,4 @@
 pub mod Arrivals
 pub mod Drawing
 pub mod Paths
+pub mod Dealing
