@@ -1,1 +1,2 @@
 mod Paths
+pub mod Dealing

@@ -1,2 +1,3 @@
 pub mod Arrivals
 pub mod Drawing
+pub mod Dealing

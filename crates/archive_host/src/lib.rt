@@ -11,6 +11,7 @@
 mod folder_path;
 mod host_file;
 mod host_folder;
+mod laws;
 mod open_port;
 mod open_ports;
 mod port_deck;
@@ -20,4 +21,5 @@ mod watch;
 
 pub use host_file::HostFile;
 pub use host_folder::{DirKeeper, HostFolder, OpenFault};
+pub use laws::dealt_ports;
 pub use udp_wire::UdpWire;

@@ -1,6 +1,7 @@
 //! The order in which ports for transfers are taken.
 
 ghost use Rattle.std.specs.Prelude.{◌≡◌, ◌<◌, ◌+◌, ◌%◌, vec_len, IfOk, Some, None};
+ghost use Rattle.archive_host.specs.Dealing.{AreDistinct};
 ghost use Rattle.archive_host.specs.Drawing.{Draws};
 ghost use Rattle.archive_host.specs.declared.port_deck.TheConstants.{LEN};
 
@@ -21,6 +22,7 @@ pub(crate) struct PortDeck {
     returned: Option<u16>,
     ghost whole: { vec_len ports ≡ LEN },
     ghost within: { next < LEN },
+    ghost distinct: { AreDistinct ports.items },
 }
 
 /// The number of ports.
@@ -30,7 +32,8 @@ pub(crate) const LEN: usize = 16_384;
 pub(crate) const DRAWN: u32 = 8_192;
 
 fn all_ports(alloc: Global) -> Result<Vec<u16>, AllocError>
-    ensures { IfOk result (λ ports. vec_len ports ≡ LEN) }
+    ensures whole { IfOk result (λ ports. vec_len ports ≡ LEN) }
+    ensures distinct { IfOk result (λ ports. AreDistinct ports.items) }
 {
     let mut ports = Vec::new(alloc);
     for i in 0..LEN as u16 {
