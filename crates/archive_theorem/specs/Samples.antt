@@ -110,6 +110,10 @@ empty_put =
 abbrev pub empty_get : List WorldStep
 empty_get = plain_steps (begin (sample_client 1) (get Ms) ∷ deliver 0 4000 ∷ deliver 1 0 ∷ deliver 2 0 ∷ [])
 
+-- The same get, of which the server's block is lost once: only the block that the server repeats brings it.
+abbrev pub lost_block : List WorldStep
+lost_block = plain_steps (begin (sample_client 1) (get Ms) ∷ deliver 0 4000 ∷ server_times_out 4000 ∷ deliver 2 0 ∷ deliver 3 0 ∷ [])
+
 abbrev pub stray_from : Endpoint → Event
 stray_from source = stray_by source 4000 (0 ∷ 4 ∷ 0 ∷ 1 ∷ [])
 
@@ -283,3 +287,6 @@ empty_get_summary =
       lynx = bare_file 1;
       ms = bare_file 2;
     }
+
+abbrev pub lost_block_summary : Summary
+lost_block_summary = record empty_get_summary { datagrams = 4 }

@@ -1,7 +1,7 @@
 //! What holds for every run. These functions do nothing: each contract is a theorem.
 
 ghost use Rattle.std.specs.Prelude.{◌≡◌, ◌≢◌, ℕ, ◌≤◌, true, false, List, length, [], ◌∷◌, ◌++◌, Contains, Some, Option};
-ghost use Rattle.archive_theorem.specs.Samples.{request_twice, late_ack, crossed_get, unanswered, strange_put, restart_between, empty_put, empty_get, barred_strays, opened_again, reused_elsewhere, begun_twice, opened_twice, strayed_there, FailsBy, sample_client, summary_of, sample_opening, one_put_summary, no_file_summary, crossed_get_summary, strange_put_summary, restart_summary, empty_put_summary, empty_get_summary};
+ghost use Rattle.archive_theorem.specs.Samples.{request_twice, late_ack, crossed_get, unanswered, strange_put, restart_between, empty_put, empty_get, lost_block, barred_strays, opened_again, reused_elsewhere, begun_twice, opened_twice, strayed_there, FailsBy, sample_client, summary_of, sample_opening, one_put_summary, no_file_summary, crossed_get_summary, strange_put_summary, restart_summary, empty_put_summary, empty_get_summary, lost_block_summary};
 ghost use Rattle.tftp_packet.specs.declared.endpoint.Endpoint.{Endpoint};
 ghost use Rattle.tftp_packet.specs.declared.cause.Cause.{Cause};
 ghost use Rattle.tftp_packet.specs.declared.cause.Cause.TheVariants.{Refused, TimedOut};
@@ -149,6 +149,8 @@ pub fn sample_runs()
     ensures restarted { summary_of (run restart_between) ≡ restart_summary }
     ensures empty { summary_of (run empty_put) ≡ empty_put_summary }
     ensures fetched_empty { summary_of (run empty_get) ≡ empty_get_summary }
+    // One in which nothing is fetched unless the server repeats a block.
+    ensures repeated { summary_of (run lost_block) ≡ lost_block_summary }
     ensures barred { summary_of (run barred_strays) ≡ no_file_summary 1 }
     // These runs meet the premises of the law; in all but one a readable file is taken.
     ensures crossed_premises { HasOwnPorts (run crossed_get) × AllMerged crossed_get start }

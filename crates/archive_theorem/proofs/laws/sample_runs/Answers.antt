@@ -1,4 +1,4 @@
-use Rattle.archive_theorem.proofs.Sample_Runs.{request_twice-comes, late_ack-comes, crossed_get-comes, unanswered-comes, strange_put-comes, restart_between-comes, empty_put-comes, empty_get-comes, barred_strays-comes}
+use Rattle.archive_theorem.proofs.Sample_Runs.{request_twice-comes, late_ack-comes, crossed_get-comes, unanswered-comes, strange_put-comes, restart_between-comes, empty_put-comes, empty_get-comes, lost_block-comes, barred_strays-comes}
 use Rattle.archive_theorem.proofs.Sample_Put.{empty_put-own, empty_put-merged}
 use Rattle.archive_theorem.proofs.Sample_Premises.{crossed_get-meets, strange_put-meets, restart_between-meets, opened_again-breaks}
 use Rattle.archive_theorem.proofs.Sample_Reuse.{reused_elsewhere-comes, reused_elsewhere-meets, begun_twice-fails, opened_twice-fails, strayed_there-fails}
@@ -27,6 +27,9 @@ returns-clause-empty c = empty_put-comes
 
 pub returns-clause-fetched_empty : goal.returns-clause-fetched_empty
 returns-clause-fetched_empty c = empty_get-comes
+
+pub returns-clause-repeated : goal.returns-clause-repeated
+returns-clause-repeated c = lost_block-comes
 
 pub returns-clause-barred : goal.returns-clause-barred
 returns-clause-barred c = barred_strays-comes
