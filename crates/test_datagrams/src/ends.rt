@@ -1,7 +1,5 @@
-//! Steps of the two ends of a transfer.
-
-// Transfers worked out by hand: which datagrams are sent at which call, by RFC 1350 sections 2, 5 and 6 and RFC 1123
-// section 4.2.3.1.
+//! Transfers worked out by hand: which datagrams are sent at which call, by RFC 1350 sections 2, 5 and 6 and RFC 1123
+//! section 4.2.3.1.
 ghost use Rattle.std.specs.Prelude.{◌≤◌, length};
 
 use std::alloc::Global;
