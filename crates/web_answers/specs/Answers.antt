@@ -19,7 +19,14 @@ AnswersBoth text first second answer = (mine : File) × (theirs : File) × IsTex
 abbrev pub AnswersBest : (first second answer : List ℕ) → Type 0
 AnswersBest first second answer = (best : Collected) × IsCollectionOf best.ruleset (first ∷ second ∷ []) best × (answer ≡ collection_text best)
 
--- why there is no answer
+-- why there is no answer of one file
+abbrev pub FailsAlone : (bytes : List ℕ) → WebFault → Type 0
+FailsAlone bytes (First fault) = HasFileFault bytes fault
+FailsAlone bytes (Second fault) = ⊥
+FailsAlone bytes Rulesets = ⊥
+FailsAlone bytes Memory = Unit {0}
+
+-- why there is none of two
 abbrev pub Fails : (first second : List ℕ) → WebFault → Type 0
 Fails first second (First fault) = HasFileFault first fault
 Fails first second (Second fault) = HasFileFault second fault

@@ -5,7 +5,7 @@ ghost use Rattle.tws_file.specs.Packing.{packed_text};
 ghost use Rattle.tws_tables.specs.Csv.{csv_of};
 ghost use Rattle.tws_tables.specs.Page.{page_of};
 ghost use Rattle.tws_file.specs.Text.{IsText};
-ghost use Rattle.web_answers.specs.Answers.{Answers, Fails};
+ghost use Rattle.web_answers.specs.Answers.{Answers, FailsAlone};
 
 use crate::web_fault::WebFault;
 use std::alloc::Allocator;
@@ -16,7 +16,7 @@ use tws_tables::{write_csv, write_page};
 // The file with this text.
 fn read<A: Allocator + Copy>(alloc: A, bytes: &[u8]) -> Result<TwsFile<A>, WebFault>
     ensures read { IfOk result (IsText bytes.now) }
-    ensures fails { IfErr result (Fails bytes.now []) }
+    ensures fails { IfErr result (FailsAlone bytes.now) }
 {
     match read_file(alloc, bytes) {
         Ok(file) => Ok(file),
@@ -31,7 +31,7 @@ fn read<A: Allocator + Copy>(alloc: A, bytes: &[u8]) -> Result<TwsFile<A>, WebFa
 /// `First` with the fault of the bytes, or `Memory` if an allocation was refused.
 pub fn csv<A: Allocator + Copy>(alloc: A, bytes: &[u8]) -> Result<Vec<u8, A>, WebFault>
     ensures answers { IfOk result (λ text. Answers csv_of bytes.now text.items) }
-    ensures fails { IfErr result (Fails bytes.now []) }
+    ensures fails { IfErr result (FailsAlone bytes.now) }
 {
     let file = read(alloc, bytes)?;
     let mut text = Vec::new(alloc);
@@ -46,7 +46,7 @@ pub fn csv<A: Allocator + Copy>(alloc: A, bytes: &[u8]) -> Result<Vec<u8, A>, We
 /// `First` with the fault of the bytes, or `Memory` if an allocation was refused.
 pub fn page<A: Allocator + Copy>(alloc: A, bytes: &[u8]) -> Result<Vec<u8, A>, WebFault>
     ensures answers { IfOk result (λ text. Answers (λ file. page_of (file ∷ [])) bytes.now text.items) }
-    ensures fails { IfErr result (Fails bytes.now []) }
+    ensures fails { IfErr result (FailsAlone bytes.now) }
 {
     let file = read(alloc, bytes)?;
     let mut text = Vec::new(alloc);
@@ -63,7 +63,7 @@ pub fn page<A: Allocator + Copy>(alloc: A, bytes: &[u8]) -> Result<Vec<u8, A>, W
 /// `First` with the fault of the bytes, or `Memory` if an allocation was refused.
 pub fn packed<A: Allocator + Copy>(alloc: A, bytes: &[u8]) -> Result<Vec<u8, A>, WebFault>
     ensures answers { IfOk result (λ text. Answers packed_text bytes.now text.items) }
-    ensures fails { IfErr result (Fails bytes.now []) }
+    ensures fails { IfErr result (FailsAlone bytes.now) }
 {
     let file = read(alloc, bytes)?;
     let packed = pack(alloc, &file)?;

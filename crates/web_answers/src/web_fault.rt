@@ -2,7 +2,7 @@
 
 ghost use Rattle.std.specs.Prelude.{◌≡◌, ℕ, List, Some};
 ghost use Rattle.tws_file.specs.Fault.{FailsWith};
-ghost use Rattle.web_answers.specs.Answers.{Fails, words_of};
+ghost use Rattle.web_answers.specs.Answers.{Fails, FailsAlone, words_of};
 ghost use Rattle.web_answers.specs.declared.web_fault.WebFault.TheVariants.{Memory};
 
 use byte_output::OutFault;
@@ -26,7 +26,8 @@ pub enum WebFault {
 impl WebFault {
     // Why the first file was not read.
     pub(crate) fn first(fault: FileFault) -> WebFault
-        ensures { (first second : List ℕ) → FailsWith first fault → Fails first second result }
+        ensures alone { (bytes : List ℕ) → FailsWith bytes fault → FailsAlone bytes result }
+        ensures both { (first second : List ℕ) → FailsWith first fault → Fails first second result }
     {
         if fault == FileFault::Memory {
             return WebFault::Memory;

@@ -8,7 +8,7 @@ ghost use Rattle.tws_compare.specs.Lines.{comparison_text};
 ghost use Rattle.tws_file.specs.Packing.{packed_text};
 ghost use Rattle.tws_tables.specs.Csv.{csv_of};
 ghost use Rattle.tws_tables.specs.Page.{page_of};
-ghost use Rattle.web_answers.specs.Answers.{Answers, AnswersBest, AnswersBoth, Fails};
+ghost use Rattle.web_answers.specs.Answers.{Answers, AnswersBest, AnswersBoth, Fails, FailsAlone};
 ghost use Rattle.web_exports.specs.Delivery.{Delivers};
 
 use crate::delivery::deliver;
@@ -18,7 +18,7 @@ use web_arena::{Arena, Region};
 /// The solutions of a file as comma-separated values.
 #[unsafe(no_mangle)]
 pub extern "C" fn file_csv(memory: Region, file: &[u8], room: &mut [u8], len: &mut usize) -> u32
-    ensures { Delivers (Answers csv_of file.now) (Fails file.now []) result room.old room.new len.new }
+    ensures { Delivers (Answers csv_of file.now) (FailsAlone file.now) result room.old room.new len.new }
 {
     let arena = Arena::new(memory);
     deliver(&arena, csv(&arena, file), room, len)
@@ -27,7 +27,7 @@ pub extern "C" fn file_csv(memory: Region, file: &[u8], room: &mut [u8], len: &m
 /// A page of HTML of a file.
 #[unsafe(no_mangle)]
 pub extern "C" fn file_page(memory: Region, file: &[u8], room: &mut [u8], len: &mut usize) -> u32
-    ensures { Delivers (Answers (λ file. page_of (file ∷ [])) file.now) (Fails file.now []) result room.old room.new len.new }
+    ensures { Delivers (Answers (λ file. page_of (file ∷ [])) file.now) (FailsAlone file.now) result room.old room.new len.new }
 {
     let arena = Arena::new(memory);
     deliver(&arena, page(&arena, file), room, len)
@@ -36,7 +36,7 @@ pub extern "C" fn file_page(memory: Region, file: &[u8], room: &mut [u8], len: &
 /// A file with its moves in the fewest bytes.
 #[unsafe(no_mangle)]
 pub extern "C" fn file_packed(memory: Region, file: &[u8], room: &mut [u8], len: &mut usize) -> u32
-    ensures { Delivers (Answers packed_text file.now) (Fails file.now []) result room.old room.new len.new }
+    ensures { Delivers (Answers packed_text file.now) (FailsAlone file.now) result room.old room.new len.new }
 {
     let arena = Arena::new(memory);
     deliver(&arena, packed(&arena, file), room, len)

@@ -3,7 +3,7 @@ use Rattle.std.proofs.Common.{rules}
 use Rattle.web_answers.proofs.both.read_both.Goals as goal
 
 pub returns-in-Err-clause-fails : goal.returns-in-Err-clause-fails
-returns-in-Err-clause-fails g c = c.first.ensures c.args.first.now c.args.second.now c.in-Err.ensures.fault
+returns-in-Err-clause-fails g c = c.first.ensures.both c.args.first.now c.args.second.now c.in-Err.ensures.fault
 
 pub returns-in-Err-read_file-clause-fails : goal.returns-in-Err-read_file-clause-fails
 returns-in-Err-read_file-clause-fails g c = c.second.ensures c.args.first.now c.args.second.now c.in-Err-read_file.ensures.fault
