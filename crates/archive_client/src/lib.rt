@@ -18,7 +18,7 @@ mod state;
 mod too_long;
 
 pub use get::Get;
-pub use laws::{client_bounds, last_ack, one_port, other_host, over_client};
+pub use laws::{client_bounds, client_patience, last_ack, one_port, other_host, over_client};
 pub use put::Put;
 pub use state::State;
 pub use tftp_packet::Cause;

@@ -26,7 +26,7 @@ pub mod Event_Happens
 pub mod Headline_Peers
 pub mod Headline_Clients
 pub mod Trace_Runs
-pub mod Sample_Runs
+pub mod Sample_Outcomes
 pub mod Headline_Since
 pub mod Port_Tests
 pub mod Headline_Begun
@@ -64,5 +64,5 @@ pub mod Error_Client
 pub mod Error_Claims
 pub mod Error_Steps
 pub mod Error_Moves
-pub mod Error_Runs
+pub mod Error_Concludes
 pub mod Error_Sampling

@@ -18,7 +18,7 @@ mod send_state;
 mod sender;
 
 pub use chunks::CHUNK_SIZE;
-pub use laws::{joined_chunks, limit_values, one_pair};
+pub use laws::{joined_chunks, limit_values, one_pair, patience};
 pub use limits::{DALLY, MAX_BLOCKS, MAX_FILE, MISSES};
 pub use received::Received;
 pub use receiver::Receiver;

@@ -1,6 +1,6 @@
 use Rattle.std.proofs.Common.{refl}
 use Rattle.tftp_packet.specs.declared.cause.Cause.TheVariants.{Refused}
-use Rattle.archive_theorem.proofs.Error_Runs.{failed-not_taken, failed-once, failed-nothing}
+use Rattle.archive_theorem.proofs.Error_Concludes.{failed-not_taken, failed-once, failed-nothing}
 use Rattle.archive_theorem.proofs.laws.error_law.Goals as goal
 
 pub returns-clause-refused : goal.returns-clause-refused

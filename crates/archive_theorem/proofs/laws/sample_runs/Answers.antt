@@ -1,4 +1,4 @@
-use Rattle.archive_theorem.proofs.Sample_Runs.{request_twice-comes, late_ack-comes, crossed_get-comes, unanswered-comes, strange_put-comes, restart_between-comes, empty_put-comes, empty_get-comes, lost_block-comes, barred_strays-comes}
+use Rattle.archive_theorem.proofs.Sample_Outcomes.{request_twice-comes, late_ack-comes, crossed_get-comes, unanswered-comes, strange_put-comes, restart_between-comes, empty_put-comes, empty_get-comes, lost_block-comes, barred_strays-comes}
 use Rattle.archive_theorem.proofs.Sample_Put.{empty_put-own, empty_put-merged}
 use Rattle.archive_theorem.proofs.Sample_Premises.{crossed_get-meets, strange_put-meets, restart_between-meets, opened_again-breaks}
 use Rattle.archive_theorem.proofs.Sample_Reuse.{reused_elsewhere-comes, reused_elsewhere-meets, begun_twice-fails, opened_twice-fails, strayed_there-fails}
