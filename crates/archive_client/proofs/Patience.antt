@@ -12,7 +12,7 @@ use Rattle.tftp_ends.specs.Ends.{Verdict, granted, refused, Sender, SendAnswer, 
 use Rattle.tftp_ends.specs.Input.{Input, nothing, stray, refusal, acked, block}
 use Rattle.tftp_ends.specs.Patience.{sender_waited, receiver_waited}
 use Rattle.tftp_ends.proofs.Steps.{sender_ack-keeps, sender_timeout-keeps}
-use Rattle.tftp_ends.proofs.Patience.{sender_ack-waited, sender_timeout-waited, receiver_data-waited, receiver_timeout-waited}
+use Rattle.tftp_ends.proofs.Waits.{sender_ack-waited, sender_timeout-waited, receiver_data-waited, receiver_timeout-waited}
 use Rattle.tws_file.specs.declared.«ruleset».Ruleset.{Ruleset}
 use Rattle.archive_client.specs.Client.{Operation, put, get, Phase, asking, sending, receiving, failed, Client, ClientAnswer, IsOperation, IsPhase, IsClient, is_over, is_phase_over, is_send_over, is_recv_over, client_start, client_input, phase_peer, client_by_input, client_unless_over, client_datagram, client_timeout, phase_waits, asks_again, put_answered, put_waited, get_took, get_sent, get_answered, get_refused, get_waited}
 use Rattle.archive_client.specs.Patience.{ClientEvent, arrives, waits, client_after, client_run, AreBytes, time_outs, phase_blocks, most_blocks, IsPatient}

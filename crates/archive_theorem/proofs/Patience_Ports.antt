@@ -13,7 +13,7 @@ use Rattle.tftp_ends.specs.Ends.{Verdict, granted, refused, Sender, sender_goes_
 use Rattle.tftp_ends.specs.Patience.{sender_waited, receiver_waited}
 use Rattle.tftp_ends.proofs.Steps.{current-fits}
 use Rattle.tftp_ends.proofs.Holding.{receiver_timeout-same}
-use Rattle.tftp_ends.proofs.Patience.{sender_ack-waited, sender_timeout-waited, receiver_data-waited, receiver_timeout-waited}
+use Rattle.tftp_ends.proofs.Waits.{sender_ack-waited, sender_timeout-waited, receiver_data-waited, receiver_timeout-waited}
 use Rattle.archive_table.specs.Table.{Maps, Grant, Taken, End, sending, receiving, Transfer, memory_verdict, transfer_at, is_same, table_datagram, table_timeout}
 use Rattle.archive_client.specs.Client.{Operation, Client, is_too_long}
 use Rattle.archive_model.specs.World.{Datagram, Event, begin, deliver, client_times_out, server_times_out, stray, restart, unknown_keep, WorldStep, World, client_at, has_begun, begins_unless, request_comes, server_receives, client_receives, arrives, delivers, client_waits, strays_unless, ends_if, ends_at, wanted_of, happens, event_happens, run_from, AllMerged, Origin, RunFrom, first_world}

@@ -3,4 +3,4 @@ pub mod Holding
 pub mod Network
 pub mod Runs
 pub mod Chunking
-pub mod Patience
+pub mod Waits

@@ -1,4 +1,4 @@
-use Rattle.tftp_ends.proofs.Patience.{sender_ack-waited, sender_timeout-waited, receiver_data-waited, receiver_timeout-waited}
+use Rattle.tftp_ends.proofs.Waits.{sender_ack-waited, sender_timeout-waited, receiver_data-waited, receiver_timeout-waited}
 use Rattle.tftp_ends.proofs.laws.patience.Goals as goal
 
 pub returns-clause-ack : goal.returns-clause-ack
