@@ -1,2 +1,4 @@
 mod Calls
 mod Loaded
+mod Steps
+mod Runs

@@ -1,10 +1,10 @@
 -- Two texts that are loaded as collections which hold what was promised.
-use Rattle.std.proofs.Common.{◌≡◌, ◌≢◌, ◌⊎◌, ℕ, List, Option, None, Some, refl, ap, sym, ◌∙◌, subst, inl, inr}
+use Rattle.std.proofs.Common.{◌≡◌, ◌≢◌, ◌⊎◌, ℕ, List, Option, None, Some, refl, sym, subst, inl, inr}
 use Rattle.tws_file.specs.declared.«ruleset».Ruleset.{Ruleset}
 use Rattle.tws_file.specs.declared.«ruleset».Ruleset.TheVariants.{Lynx, Ms}
-use Rattle.tws_best.specs.Best.{Collected, IsCollected, collection_text}
+use Rattle.tws_best.specs.Best.{collection_text}
 use Rattle.archive_table.specs.Table.{Maps, Taken, map_of}
-use Rattle.archive_table.specs.Keeper.{Keeping, IsLoaded, last_kept}
+use Rattle.archive_table.specs.Keeper.{IsLoaded, last_kept}
 use Rattle.archive_model.specs.World.{World, IsPrefix}
 use Rattle.archive_model.specs.Restarts.{LoadsAs}
 use Rattle.archive_theorem.proofs.Invariant.{Holds, AreBest}

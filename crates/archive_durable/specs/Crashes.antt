@@ -1,15 +1,15 @@
 -- What each event of a run does to the folder of the server's keeper, and what a crash at any moment leaves there.
-use Rattle.std.specs.Prelude.{◌≡◌, ◌≢◌, ◌⊎◌, ℕ, Bool, true, false, List, [], ◌∷◌, ◌++◌, slice_get, Option, Some, Result, Ok, Err}
+use Rattle.std.specs.Prelude.{◌≡◌, ◌≢◌, ◌⊎◌, ℕ, Bool, true, false, List, [], ◌∷◌, ◌++◌, slice_get, Option, Result, Ok, Err}
 use Rattle.tws_file.specs.declared.«ruleset».Ruleset.{Ruleset}
 use Rattle.tws_file.specs.declared.«ruleset».Ruleset.TheVariants.{Lynx, Ms}
 use Rattle.tws_best.specs.Best.{collection_text}
 use Rattle.folders.specs.Folder.{FolderModel, Only, Stays}
 use Rattle.folders.specs.Publishing.{Replaces, HasOnly}
-use Rattle.archive_table.specs.Table.{Maps, Taken, map_of, Merges}
+use Rattle.archive_table.specs.Table.{Maps, Taken, map_of, Merges, unkept}
 use Rattle.archive_table.specs.Keeper.{Keeping, given, IsLoaded}
 use Rattle.archive_table.specs.declared.keep_fault.KeepFault.{KeepFault}
 use Rattle.archive_keepers.specs.Names.{kept_name, draft_name}
-use Rattle.archive_model.specs.World.{Event, begin, deliver, client_times_out, server_times_out, stray, restart, unknown_keep, WorldStep, World, wanted_by, happens}
+use Rattle.archive_model.specs.World.{Event, begin, deliver, client_times_out, server_times_out, stray, restart, unknown_keep, WorldStep, World, wanted_by, happens, HasMerged}
 use Rattle.archive_model.specs.Restarts.{FailsOutside}
 use Rattle.archive_theorem.specs.Durable.{HoldsPromised}
 
@@ -92,9 +92,9 @@ abbrev pub MayRemain : {D : Type 0} (m : FolderModel D) (folder : D) (since : �
 MayRemain m folder since rules text = m.reads folder (kept_name rules) text ⊎ m.left_since folder since (kept_name rules) text
 
 -- A start finds nothing else.
-pub record Finds {D : Type 0} (m : FolderModel D) (possible : Ruleset → Option (List ℕ) → Type 0) (folder : D) : Type 0 where
-  pub read : (rules : Ruleset) (text : Option (List ℕ)) → m.reads folder (kept_name rules) text → possible rules text
-  pub left : (rules : Ruleset) (text : Option (List ℕ)) → m.leaves folder (kept_name rules) text → possible rules text
+pub record Finds {D : Type 0} (m : FolderModel D) (ended : D) (since : ℕ) (next : D) : Type 0 where
+  pub read : (rules : Ruleset) (text : Option (List ℕ)) → m.reads next (kept_name rules) text → MayRemain m ended since rules text
+  pub left : (rules : Ruleset) (text : Option (List ℕ)) → m.leaves next (kept_name rules) text → MayRemain m ended since rules text
 
 -- The folder that the server has after the event: the same, unless it starts again. After a keep whose outcome is unknown,
 -- the start finds the collections that the world has.
@@ -104,11 +104,25 @@ ComesNext m (deliver index spare) v folder next = next ≡ folder
 ComesNext m (client_times_out e) v folder next = next ≡ folder
 ComesNext m (server_times_out port) v folder next = next ≡ folder
 ComesNext m (stray d) v folder next = next ≡ folder
-ComesNext m restart v folder next = Finds m (MayRemain m folder (m.moment folder)) next
+ComesNext m restart v folder next = Finds m folder (m.moment folder) next
 ComesNext m (unknown_keep index found) v folder next = HasCollections m next v.server.maps
+
+-- a keep whose outcome is unknown, of these collections
+abbrev pub unknown_step : (index : ℕ) (found : Bool) → Maps → WorldStep
+unknown_step index found tried = record { event = unknown_keep index found; grant = unkept; maps = tried }
+
+-- There is such a step: where a start reads one text of each collection, which a crash then leaves, it finds the collections
+-- with the file, or those without.
+abbrev pub IsKnownNext : {D : Type 0} (m : FolderModel D) → World → (folder : D) → Type 0
+IsKnownNext {D} m w folder =
+    (index : ℕ) (ended next : D) (k : MayKeep m (wanted_by (slice_get w.net index) w) w.server.maps folder ended) →
+    (text : Ruleset → Option (List ℕ)) → StartsWith m next text → ((rules : Ruleset) → MayRemain m ended (m.moment folder) rules (text rules)) →
+    (found : Bool) × HasMerged (unknown_step index found k.tried) w
+    × ComesNext m (unknown_keep index found) (happens (unknown_step index found k.tried) w) ended next
 
 -- ---- a run
 
+-- from the first folder to the last
 abbrev pub RunDoes : {D : Type 0} (m : FolderModel D) → List WorldStep → World → (first last : D) → Type 0
 RunDoes m [] w first last = last ≡ first
 RunDoes {D} m (s ∷ steps) w first last =
