@@ -2,3 +2,4 @@ mod Calls
 mod Loaded
 mod Steps
 mod Runs
+mod Perfect_Runs

@@ -132,11 +132,11 @@ module _ {D : Type 0} (m : FolderModel D) where
 
   run_next : (steps : List WorldStep) (w : World) (first last : D) → AllMerged steps w → Holds w → RunDoes m steps w first last →
       HasCollections m first w.server.maps → HasCollections m last (run_from steps w).server.maps
-  run_next [] w first last merged h is has = subst (λ (f : D). HasCollections m f w.server.maps) (sym is) has
+  run_next [] w first last merged h stay has = stay-has m first last w.server.maps has stay
   run_next (s ∷ steps) w first last merged h does has =
       let now = step-holds w s h merged.0 in
-      run_next steps (happens s w) does.1 last merged.1 now does.4
-      (event_next w s.grant s.maps first does.0 does.1 s.event now.best does.2 does.3 has)
+      run_next steps (happens s w) does.2 last merged.1 now does.6
+      (event_next w s.grant s.maps does.0 does.1 does.2 s.event now.best does.4 does.5 (stay-has m first does.0 w.server.maps has does.3))
 
   module _ (o : Origin) (r : RunFrom o) (first last : D) (loaded : HasCollections m first o.maps) (does : RunDoes m r.steps (first_world o) first last) where
     -- the folder has the server's collections
@@ -157,6 +157,21 @@ module _ {D : Type 0} (m : FolderModel D) where
         let w = last_world r in
         let h = last-holds o r in
         event_survives w h last ended run-has (happens s w) (step-extends w s).taken (step-holds w s h merged).best s.event step
+
+    -- and after it
+    pub step-after : (s : WorldStep) (ended next : D) → HasMerged s (last_world r) →
+        StepDoes m s.event (last_world r) (happens s (last_world r)) last ended → ComesNext m s.event (happens s (last_world r)) ended next →
+        SurvivesNow m next (happens s (last_world r))
+    step-after s ended next merged step comes lynx ms is_lynx is_ms =
+        let w = last_world r in
+        let v = happens s w in
+        let h = step-holds w s (last-holds o r) merged in
+        let has = event_next w s.grant s.maps last ended next s.event h.best step comes run-has in
+        loads-promised v h v.taken v.server.maps (IsPrefix-same v.taken) h.best lynx ms (now-pair m next next v.server.maps has lynx ms is_lynx is_ms)
+
+    -- and during calls that keep nothing
+    pub idle-survives : (next : D) → StayKept m last next → SurvivesSince m next (m.moment last) (last_world r)
+    idle-survives next stay = stay_survives (last_world r) (last-holds o r) last next run-has stay
 
     -- a keep whose outcome is unknown, and the start after it, are a step of the world
     pub known-next : IsKnownNext m (last_world r) last

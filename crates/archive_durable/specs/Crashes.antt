@@ -122,12 +122,12 @@ IsKnownNext {D} m w folder =
 
 -- ---- a run
 
--- from the first folder to the last
+-- The folder from the first event to the last. Before each, and after the last, the keeper may load and clear its drafts.
 abbrev pub RunDoes : {D : Type 0} (m : FolderModel D) → List WorldStep → World → (first last : D) → Type 0
-RunDoes m [] w first last = last ≡ first
+RunDoes m [] w first last = StayKept m first last
 RunDoes {D} m (s ∷ steps) w first last =
-    (ended : D) × (next : D) × StepDoes m s.event w (happens s w) first ended × ComesNext m s.event (happens s w) ended next
-    × RunDoes m steps (happens s w) next last
+    (ready : D) × (ended : D) × (next : D) × StayKept m first ready × StepDoes m s.event w (happens s w) ready ended
+    × ComesNext m s.event (happens s w) ended next × RunDoes m steps (happens s w) next last
 
 -- ---- what a crash leaves
 

@@ -1,8 +1,11 @@
-//! One call of a keeper over a folder.
+//! The calls of a keeper over a folder.
 
-ghost use Rattle.std.specs.Prelude.{◌≡◌, true};
+ghost use Rattle.std.specs.Prelude.{◌≡◌, true, IfOk};
 ghost use Rattle.tws_best.specs.Best.{collection_text};
-ghost use Rattle.archive_durable.specs.Crashes.{KeepDoes};
+ghost use Rattle.archive_table.specs.Table.{Maps, map_of};
+ghost use Rattle.archive_table.specs.Keeper.{IsLoaded};
+ghost use Rattle.folders.specs.Folder.{texts_of};
+ghost use Rattle.archive_durable.specs.Crashes.{KeepDoes, StayKept, HasCollections};
 
 use archive_keepers::FolderKeeper;
 use archive_table::{KeepFault, Keeper};
@@ -24,4 +27,20 @@ pub fn keep<F: Folder, A: Allocator>(
     ensures { F.has_model ≡ true → KeepDoes F.model keeper.old.folder keeper.new.folder «ruleset» (collection_text collection.now) result keeper.new.is_usable }
 {
     keeper.keep(ruleset, collection)
+}
+
+/// Loads a collection as the keeper does: if the folder has these collections, what it loads is the one of its ruleset.
+///
+/// # Errors
+///
+/// Those of the keeper.
+pub fn load<F: Folder, A: Allocator>(
+    keeper: &mut FolderKeeper<F>,
+    alloc: A,
+    ruleset: Ruleset,
+) -> Result<Option<Vec<u8, A>>, KeepFault>
+    ensures found { F.has_model ≡ true → (maps : Maps) → HasCollections F.model keeper.old.folder maps → IfOk result (λ found. IsLoaded «ruleset» (texts_of found) (map_of «ruleset» maps)) }
+    ensures stay { F.has_model ≡ true → StayKept F.model keeper.old.folder keeper.new.folder }
+{
+    keeper.load(alloc, ruleset)
 }

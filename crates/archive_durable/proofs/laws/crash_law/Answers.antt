@@ -1,5 +1,5 @@
 use Rattle.archive_durable.proofs.Steps.{start-has}
-use Rattle.archive_durable.proofs.Runs.{run-has, run-survives, step-survives, known-next}
+use Rattle.archive_durable.proofs.Runs.{run-has, run-survives, step-survives, step-after, idle-survives, known-next}
 use Rattle.archive_durable.proofs.laws.crash_law.Goals as goal
 
 pub returns-clause-has : goal.returns-clause-has
@@ -16,3 +16,9 @@ returns-clause-known g c = known-next g.F.Folder.model
 
 pub returns-clause-start : goal.returns-clause-start
 returns-clause-start g c = start-has g.F.Folder.model
+
+pub returns-clause-after : goal.returns-clause-after
+returns-clause-after g c = step-after g.F.Folder.model
+
+pub returns-clause-idle : goal.returns-clause-idle
+returns-clause-idle g c o r first last next = λ has does stay. idle-survives g.F.Folder.model o r first last has does next stay
