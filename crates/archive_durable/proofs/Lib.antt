@@ -3,3 +3,4 @@ mod Loaded
 mod Steps
 mod Runs
 mod Perfect_Runs
+mod Delivery_Calls

@@ -93,4 +93,4 @@ pub pair-either : (texts : Ruleset → Option (List ℕ)) (old new : Maps) (rule
 pair-either texts old new rules only (inl own) others = inl (by_ruleset (λ r. IsLoaded r (texts r) (map_of r old)) rules own others)
 pair-either texts old new rules only (inr own) others =
     inr (by_ruleset (λ r. IsLoaded r (texts r) (map_of r new)) rules own
-      (λ other differs. subst (IsLoaded other (texts other)) (sym (only other differs)) (others other differs)))
+    (λ other differs. subst (IsLoaded other (texts other)) (sym (only other differs)) (others other differs)))

@@ -74,6 +74,7 @@ module _ (f : PerfectFolder) (new : Maps) (rules : Ruleset) (only : OnlyChanges 
       since : (text : Option (List ℕ)) → HadText (length f.before) new (f.now ∷ f.before) other text → HasText f.now other text
       since text (inl is) = other_text other apart text is
       since text (inr past) = had_only f.now f.before other text past.1
+
       earlier : (t : ℕ) (text : Option (List ℕ)) → t ≤ length f.before → HadText t new (f.now ∷ f.before) other text → HadText t f.now f.before other text
       earlier t text le (inl is) = perfect.counts_now f t other text le (other_text other apart text is)
       earlier t text le (inr past) = past.1
@@ -92,6 +93,7 @@ module _ (f : PerfectFolder) (new : Maps) (rules : Ruleset) (only : OnlyChanges 
           HasText f.now (kept_name rules) text ⊎ (text ≡ Some (collection_text (map_of rules new)))
       since text (inl is) = inr (is rules refl)
       since text (inr past) = inl (had_only f.now f.before (kept_name rules) text past.1)
+
       earlier : (t : ℕ) (text : Option (List ℕ)) → t ≤ length f.before → HadText t new (f.now ∷ f.before) (kept_name rules) text →
           HadText t f.now f.before (kept_name rules) text ⊎ (text ≡ Some (collection_text (map_of rules new)))
       earlier t text le (inl is) = inr (is rules refl)
@@ -162,15 +164,13 @@ module _ (w v : World) (before : List Maps) (index spare : ℕ) where
 
 -- a keep whose outcome is unknown
 perfect_keep : (wanted : Option Taken) (f : PerfectFolder) → (ended : PerfectFolder) × MayKeep perfect wanted f.now f ended
-perfect_keep None f =
-    (
-      replaced f f.now,
-      record { tried = f.now; merges = refl; rules = Lynx; only = λ other differs. refl; fault = Device; unknown = replacing f f.now Lynx (λ other differs. refl) },
-    )
+perfect_keep None f = (
+  replaced f f.now,
+  record { tried = f.now; merges = refl; rules = Lynx; only = λ other differs. refl; fault = Device; unknown = replacing f f.now Lynx (λ other differs. refl) },
+)
 perfect_keep (Some t) f =
     let made = merged-of t.file f.now in
-    let one = only_one t.file f.now made.0 made.1 (readable_or_not t.file) in
-    (
+    let one = only_one t.file f.now made.0 made.1 (readable_or_not t.file) in (
       replaced f made.0,
       record { tried = made.0; merges = made.1; rules = one.0; only = one.1; fault = Device; unknown = replacing f made.0 one.0 one.1 },
     )
@@ -199,7 +199,7 @@ module _ (w v : World) (before : List Maps) (same : v.server.maps ≡ w.server.m
 module _ (w : World) (grant : Grant) (maps : Maps) (before : List Maps) where
   perfect_next : (event : Event) → StepTakes (GrantedBy event grant) w (event_happens event grant maps w) →
       ((t : Taken) → (event_happens event grant maps w).taken ≡ w.taken ++ t ∷ [] →
-        IsMerged t.file w.server.maps (event_happens event grant maps w).server.maps) →
+      IsMerged t.file w.server.maps (event_happens event grant maps w).server.maps) →
       AreBest (event_happens event grant maps w).taken (event_happens event grant maps w).server.maps →
       PerfectNext w (event_happens event grant maps w) event before
   perfect_next (begin e operation) takes merged best =

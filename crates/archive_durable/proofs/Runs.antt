@@ -179,8 +179,7 @@ module _ {D : Type 0} (m : FolderModel D) where
         let w = last_world r in
         let sent = slice_get w.net index in
         let t = tried_best (wanted_by sent w) w.taken w.server.maps k.tried (last-holds o r).best k.merges in
-        let finds = keep-found m last ended w.server.maps run-has k.tried k.rules k.only (loads-own t.all k.tried t.best k.rules) k.unknown next text starts remains in
-        (
+        let finds = keep-found m last ended w.server.maps run-has k.tried k.rules k.only (loads-own t.all k.tried t.best k.rules) k.unknown next text starts remains in (
           finds.0,
           sent_merged w k.tried sent finds.0 k.merges,
           subst (HasCollections m next) (sym (sent_maps w k.tried sent finds.0 k.merges)) finds.1,

@@ -132,4 +132,4 @@ module _ {D : Type 0} (m : FolderModel D) where
           ((x : Ruleset) → MayRemain m e (m.moment d) x (text x)) → (found : Bool) × HasCollections m next (maps_found found old tried)
       keep-found next text starts remains =
           found_by next text starts (pair-either text old tried rules only (own_remains (text rules) (remains rules))
-            (λ other differs. other_remains other differs (text other) (remains other)))
+          (λ other differs. other_remains other differs (text other) (remains other)))

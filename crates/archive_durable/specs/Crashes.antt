@@ -5,12 +5,12 @@ use Rattle.tws_file.specs.declared.«ruleset».Ruleset.TheVariants.{Lynx, Ms}
 use Rattle.tws_best.specs.Best.{collection_text}
 use Rattle.folders.specs.Folder.{FolderModel, Only, Stays}
 use Rattle.folders.specs.Publishing.{Replaces, HasOnly}
-use Rattle.archive_table.specs.Table.{Maps, Taken, map_of, Merges, unkept}
+use Rattle.archive_table.specs.Table.{Maps, Taken, map_of, Merges, Grant, unkept}
 use Rattle.archive_table.specs.Keeper.{Keeping, given, IsLoaded}
 use Rattle.archive_table.specs.declared.keep_fault.KeepFault.{KeepFault}
 use Rattle.archive_keepers.specs.Names.{kept_name, draft_name}
 use Rattle.archive_model.specs.World.{Event, begin, deliver, client_times_out, server_times_out, stray, restart, unknown_keep, WorldStep, World, wanted_by, happens, HasMerged}
-use Rattle.archive_model.specs.Restarts.{FailsOutside}
+use Rattle.archive_model.specs.Restarts.{EventKeeps, FailsOutside}
 use Rattle.archive_theorem.specs.Durable.{HoldsPromised}
 
 -- ---- a call of `keep`
@@ -55,6 +55,16 @@ pub record RefusesKeep {D : Type 0} (m : FolderModel D) (old new : D) : Type 0 w
 abbrev pub DeliveryDoes : {D : Type 0} (m : FolderModel D) (was is : Maps) (old new : D) → Type 0
 DeliveryDoes m was is old new = KeepsChange m was is old new ⊎ ((is ≡ was) × (StayKept m old new ⊎ RefusesKeep m old new))
 
+-- What a call made of the folder, which is this in the list of a keeper that has one.
+abbrev pub CallDoes : {D : Type 0} (m : FolderModel D) → (ok : Bool) (rules : Ruleset) (text : List ℕ) (old new : D) → Type 0
+CallDoes m true rules text old new = KeepDoes m old new rules text (Ok tt) true
+CallDoes m false rules text old new = (fault : KeepFault) × KeepDoes m old new rules text (Err fault) true
+
+-- and what the calls of one step did, of which there is at most one
+abbrev pub CallsDo : {D : Type 0} (m : FolderModel D) (calls : List Keeping) (old new : D) → Type 0
+CallsDo m [] old new = StayKept m old new
+CallsDo m (k ∷ ks) old new = (ks ≡ []) × CallDoes m k.ok k.«ruleset» k.text old new
+
 -- A keep of what the file makes of the collections, and whether it was kept is unknown.
 pub record MayKeep {D : Type 0} (m : FolderModel D) (wanted : Option Taken) (was : Maps) (old new : D) : Type 0 where
   pub tried : Maps
@@ -73,6 +83,16 @@ StepDoes m (server_times_out port) w v old new = StayKept m old new
 StepDoes m (stray d) w v old new = StayKept m old new
 StepDoes m restart w v old new = StayKept m old new
 StepDoes m (unknown_keep index found) w v old new = MayKeep m (wanted_by (slice_get w.net index) w) w.server.maps old new
+
+abbrev pub delivery : (index spare : ℕ) → Grant → Maps → WorldStep
+delivery index spare grant maps = record { event = deliver index spare; grant = grant; maps = maps }
+
+-- If the calls are those that the contract of the server's step says for any keeper with a list, this is what a delivery does.
+abbrev pub DoesAsStepKeeps : {D : Type 0} (m : FolderModel D) → World → (old new : D) → Type 0
+DoesAsStepKeeps m w old new =
+    (index spare : ℕ) (grant : Grant) (maps : Maps) (before calls : List Keeping) → HasMerged (delivery index spare grant maps) w →
+    EventKeeps (deliver index spare) grant w (happens (delivery index spare grant maps) w) before (before ++ calls) → CallsDo m calls old new →
+    StepDoes m (deliver index spare) w (happens (delivery index spare grant maps) w) old new
 
 -- ---- a start of the server
 

@@ -5,7 +5,7 @@ ghost use Rattle.tws_file.specs.declared.«ruleset».Ruleset.{Ruleset};
 ghost use Rattle.archive_table.specs.Table.{Maps, map_of};
 ghost use Rattle.archive_table.specs.Keeper.{IsLoaded};
 ghost use Rattle.archive_model.specs.World.{World, WorldStep, Origin, RunFrom, first_world, last_world, happens, HasMerged};
-ghost use Rattle.archive_durable.specs.Crashes.{StayKept, StepDoes, HasCollections, ComesNext, RunDoes, StartsWith, IsKnownNext, SurvivesNow, SurvivesSince};
+ghost use Rattle.archive_durable.specs.Crashes.{StayKept, StepDoes, HasCollections, ComesNext, RunDoes, DoesAsStepKeeps, StartsWith, IsKnownNext, SurvivesNow, SurvivesSince};
 ghost use Rattle.archive_durable.specs.Perfect.{PerfectFolder, perfect, perfect_with};
 
 use folders::Folder;
@@ -29,6 +29,8 @@ pub fn crash_law<F: Folder>()
     ensures idle { (o : Origin) (r : RunFrom o) (first last next : F) → HasCollections F.model first o.maps →
         RunDoes F.model r.steps (first_world o) first last → StayKept F.model last next →
         SurvivesSince F.model next (F.model.moment last) (last_world r) }
+    // What a delivery does follows from the calls that the server makes and from what each of them does.
+    ensures calls { (o : Origin) (r : RunFrom o) (last ended : F) → DoesAsStepKeeps F.model (last_world r) last ended }
     // A keep whose outcome is unknown, and the start after it, are a step of the world.
     ensures known { (o : Origin) (r : RunFrom o) (first last : F) → HasCollections F.model first o.maps →
         RunDoes F.model r.steps (first_world o) first last → IsKnownNext F.model (last_world r) last }

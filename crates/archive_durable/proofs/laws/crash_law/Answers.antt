@@ -1,5 +1,6 @@
 use Rattle.archive_durable.proofs.Steps.{start-has}
 use Rattle.archive_durable.proofs.Runs.{run-has, run-survives, step-survives, step-after, idle-survives, known-next}
+use Rattle.archive_durable.proofs.Delivery_Calls.{calls-do}
 use Rattle.archive_durable.proofs.laws.crash_law.Goals as goal
 
 pub returns-clause-has : goal.returns-clause-has
@@ -22,3 +23,6 @@ returns-clause-after g c = step-after g.F.Folder.model
 
 pub returns-clause-idle : goal.returns-clause-idle
 returns-clause-idle g c o r first last next = λ has does stay. idle-survives g.F.Folder.model o r first last has does next stay
+
+pub returns-clause-calls : goal.returns-clause-calls
+returns-clause-calls g c = calls-do g.F.Folder.model
