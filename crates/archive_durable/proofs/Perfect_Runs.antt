@@ -19,7 +19,7 @@ use Rattle.archive_theorem.proofs.Invariant.{AreBest, first-best}
 use Rattle.archive_theorem.proofs.Remaining.{StepTakes, step-takes, GrantedBy, timeout_leaves, begins_remain, waits_remain, strays_remain}
 use Rattle.archive_theorem.proofs.Collecting.{step-best}
 use Rattle.archive_theorem.proofs.Totality.{merged-of}
-use Rattle.archive_durable.specs.Crashes.{Replacing, StayKept, OnlyChanges, KeepsChange, DeliveryDoes, MayKeep, StepDoes, HasCollections, MayRemain, ComesNext, RunDoes}
+use Rattle.archive_durable.specs.Crashes.{Replacing, StayKept, OnlyChanges, KeepsChange, DeliveryDoes, MayKeep, StepDoes, HasCollections, MayRemain, ComesNext, RunDoes, RunOver}
 use Rattle.archive_durable.specs.Perfect.{PerfectFolder, HasText, HadText, perfect, perfect_with, had_only}
 use Rattle.archive_durable.proofs.Loaded.{by_ruleset, ms_other, lynx_other, loads-own}
 
@@ -31,8 +31,8 @@ own_text : (taken : List Taken) (maps : Maps) → AreBest taken maps → (rules 
 own_text taken maps best rules text is =
     subst (λ (o : Option (List ℕ)). IsLoaded rules o (map_of rules maps)) (sym (is rules refl)) (loads-own taken maps best rules)
 
-pub perfect-has : (taken : List Taken) (maps : Maps) → AreBest taken maps → (before : List Maps) → HasCollections perfect (record { now = maps; before = before }) maps
-perfect-has taken maps best before = record { read = own_text taken maps best; left = own_text taken maps best }
+perfect_has : (taken : List Taken) (maps : Maps) → AreBest taken maps → (before : List Maps) → HasCollections perfect (record { now = maps; before = before }) maps
+perfect_has taken maps best before = record { read = own_text taken maps best; left = own_text taken maps best }
 
 none_later : (f : PerfectFolder) (name : List ℕ) → Stays perfect f f name
 none_later f name =
@@ -221,7 +221,7 @@ module _ (w : World) (grant : Grant) (maps : Maps) (before : List Maps) where
   perfect_next (unknown_keep index found) takes merged best =
       let v = event_happens (unknown_keep index found) grant maps w in
       let keep = perfect_keep (wanted_by (slice_get w.net index) w) (record { now = w.server.maps; before = before }) in
-      record { ended = keep.0; older = []; step = keep.1; comes = perfect-has v.taken v.server.maps best [] }
+      record { ended = keep.0; older = []; step = keep.1; comes = perfect_has v.taken v.server.maps best [] }
 
 -- ---- a run
 
@@ -237,8 +237,9 @@ run_from_does (s ∷ steps) w before merged best =
     let rest = run_from_does steps v p.older merged.1 later in
     (rest.0, (now, p.ended, record { now = v.server.maps; before = p.older }, perfect_stay now, p.step, p.comes, rest.1))
 
-pub first-has : (o : Origin) → HasCollections perfect (perfect_with o.maps) o.maps
-first-has o = perfect-has (first_world o).taken o.maps (first-best o) []
-
-pub run-does : (o : Origin) (r : RunFrom o) → (last : PerfectFolder) × RunDoes perfect r.steps (first_world o) (perfect_with o.maps) last
-run-does o r = run_from_does r.steps (first_world o) [] r.merged (first-best o)
+pub run-over : (o : Origin) (r : RunFrom o) → (over : RunOver perfect o) × (over.run ≡ r)
+run-over o r =
+    let does = run_from_does r.steps (first_world o) [] r.merged (first-best o) in (
+      record { run = r; first = perfect_with o.maps; last = does.0; loaded = perfect_has (first_world o).taken o.maps (first-best o) []; does = does.1 },
+      refl,
+    )

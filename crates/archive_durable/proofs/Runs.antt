@@ -11,7 +11,7 @@ use Rattle.archive_theorem.proofs.Merging.{best-taken}
 use Rattle.archive_theorem.proofs.Remaining.{timeout_leaves, begins_remain, waits_remain, strays_remain}
 use Rattle.archive_theorem.proofs.Happening.{step-holds, last-holds}
 use Rattle.archive_theorem.proofs.Totality.{not_more, one_last}
-use Rattle.archive_durable.specs.Crashes.{StayKept, DeliveryDoes, MayKeep, StepDoes, HasCollections, ComesNext, IsKnownNext, RunDoes, LoadsAllPromised, SurvivesNow, SurvivesSince}
+use Rattle.archive_durable.specs.Crashes.{StayKept, DeliveryDoes, MayKeep, StepDoes, HasCollections, ComesNext, IsKnownNext, RunDoes, RunOver, end_of, NextStep, LoadsAllPromised, SurvivesNow, SurvivesSince}
 use Rattle.archive_durable.proofs.Loaded.{pick, LoadsPair, loads-promised, loads-own}
 use Rattle.archive_durable.proofs.Steps.{stay-has, stay-since, now-pair, finds-has, refused-stay, kept-has, keep-since, keep-found}
 
@@ -138,48 +138,48 @@ module _ {D : Type 0} (m : FolderModel D) where
       run_next steps (happens s w) does.2 last merged.1 now does.6
       (event_next w s.grant s.maps does.0 does.1 does.2 s.event now.best does.4 does.5 (stay-has m first does.0 w.server.maps has does.3))
 
-  module _ (o : Origin) (r : RunFrom o) (first last : D) (loaded : HasCollections m first o.maps) (does : RunDoes m r.steps (first_world o) first last) where
+  module _ (o : Origin) (r : RunOver m o) where
     -- the folder has the server's collections
-    pub run-has : HasCollections m last (last_world r).server.maps
-    run-has = run_next r.steps (first_world o) first last r.merged (first-holds o) does loaded
+    pub run-has : HasCollections m r.last (end_of r).server.maps
+    run-has = run_next r.run.steps (first_world o) r.first r.last r.run.merged (first-holds o) r.does r.loaded
+
+    now_survives : (folder : D) (w : World) → Holds w → HasCollections m folder w.server.maps → SurvivesNow m folder w
+    now_survives folder w h has lynx ms is_lynx is_ms =
+        loads-promised w h w.taken w.server.maps (IsPrefix-same w.taken) h.best lynx ms (now-pair m folder folder w.server.maps has lynx ms is_lynx is_ms)
 
     -- what a crash leaves holds what was promised
-    pub run-survives : SurvivesNow m last (last_world r)
-    run-survives lynx ms is_lynx is_ms =
-        let w = last_world r in
-        let h = last-holds o r in
-        loads-promised w h w.taken w.server.maps (IsPrefix-same w.taken) h.best lynx ms (now-pair m last last w.server.maps run-has lynx ms is_lynx is_ms)
+    pub run-survives : SurvivesNow m r.last (end_of r)
+    run-survives = now_survives r.last (end_of r) (last-holds o r.run) run-has
 
-    -- also at any moment of the next step
-    pub step-survives : (s : WorldStep) (ended : D) → HasMerged s (last_world r) →
-        StepDoes m s.event (last_world r) (happens s (last_world r)) last ended → SurvivesSince m ended (m.moment last) (last_world r)
-    step-survives s ended merged step =
-        let w = last_world r in
-        let h = last-holds o r in
-        event_survives w h last ended run-has (happens s w) (step-extends w s).taken (step-holds w s h merged).best s.event step
+    module _ (n : NextStep m (end_of r) r.last) where
+      -- also at any moment of the next step
+      pub step-survives : SurvivesSince m n.ended (m.moment r.last) (end_of r)
+      step-survives =
+          let w = end_of r in
+          let h = last-holds o r.run in
+          event_survives w h r.last n.ended run-has (happens n.step w) (step-extends w n.step).taken (step-holds w n.step h n.merged).best
+          n.step.event n.does
 
-    -- and after it
-    pub step-after : (s : WorldStep) (ended next : D) → HasMerged s (last_world r) →
-        StepDoes m s.event (last_world r) (happens s (last_world r)) last ended → ComesNext m s.event (happens s (last_world r)) ended next →
-        SurvivesNow m next (happens s (last_world r))
-    step-after s ended next merged step comes lynx ms is_lynx is_ms =
-        let w = last_world r in
-        let v = happens s w in
-        let h = step-holds w s (last-holds o r) merged in
-        let has = event_next w s.grant s.maps last ended next s.event h.best step comes run-has in
-        loads-promised v h v.taken v.server.maps (IsPrefix-same v.taken) h.best lynx ms (now-pair m next next v.server.maps has lynx ms is_lynx is_ms)
+      -- and after it
+      pub step-after : (next : D) → ComesNext m n.step.event (happens n.step (end_of r)) n.ended next → SurvivesNow m next (happens n.step (end_of r))
+      step-after next comes =
+          let w = end_of r in
+          let v = happens n.step w in
+          let h = step-holds w n.step (last-holds o r.run) n.merged in
+          now_survives next v h (event_next w n.step.grant n.step.maps r.last n.ended next n.step.event h.best n.does comes run-has)
 
     -- and during calls that keep nothing
-    pub idle-survives : (next : D) → StayKept m last next → SurvivesSince m next (m.moment last) (last_world r)
-    idle-survives next stay = stay_survives (last_world r) (last-holds o r) last next run-has stay
+    pub idle-survives : (next : D) → StayKept m r.last next → SurvivesSince m next (m.moment r.last) (end_of r)
+    idle-survives next stay = stay_survives (end_of r) (last-holds o r.run) r.last next run-has stay
 
     -- a keep whose outcome is unknown, and the start after it, are a step of the world
-    pub known-next : IsKnownNext m (last_world r) last
+    pub known-next : IsKnownNext m (end_of r) r.last
     known-next index ended next k text starts remains =
-        let w = last_world r in
+        let w = end_of r in
         let sent = slice_get w.net index in
-        let t = tried_best (wanted_by sent w) w.taken w.server.maps k.tried (last-holds o r).best k.merges in
-        let finds = keep-found m last ended w.server.maps run-has k.tried k.rules k.only (loads-own t.all k.tried t.best k.rules) k.unknown next text starts remains in (
+        let t = tried_best (wanted_by sent w) w.taken w.server.maps k.tried (last-holds o r.run).best k.merges in
+        let own = loads-own t.all k.tried t.best k.rules in
+        let finds = keep-found m r.last ended w.server.maps run-has k.tried k.rules k.only own k.unknown next text starts remains in (
           finds.0,
           sent_merged w k.tried sent finds.0 k.merges,
           subst (HasCollections m next) (sym (sent_maps w k.tried sent finds.0 k.merges)) finds.1,

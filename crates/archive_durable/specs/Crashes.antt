@@ -9,7 +9,7 @@ use Rattle.archive_table.specs.Table.{Maps, Taken, map_of, Merges, Grant, unkept
 use Rattle.archive_table.specs.Keeper.{Keeping, given, IsLoaded}
 use Rattle.archive_table.specs.declared.keep_fault.KeepFault.{KeepFault}
 use Rattle.archive_keepers.specs.Names.{kept_name, draft_name}
-use Rattle.archive_model.specs.World.{Event, begin, deliver, client_times_out, server_times_out, stray, restart, unknown_keep, WorldStep, World, wanted_by, happens, HasMerged}
+use Rattle.archive_model.specs.World.{Event, begin, deliver, client_times_out, server_times_out, stray, restart, unknown_keep, WorldStep, World, wanted_by, happens, HasMerged, Origin, RunFrom, first_world, last_world}
 use Rattle.archive_model.specs.Restarts.{EventKeeps, FailsOutside}
 use Rattle.archive_theorem.specs.Durable.{HoldsPromised}
 
@@ -148,6 +148,25 @@ RunDoes m [] w first last = StayKept m first last
 RunDoes {D} m (s ∷ steps) w first last =
     (ready : D) × (ended : D) × (next : D) × StayKept m first ready × StepDoes m s.event w (happens s w) ready ended
     × ComesNext m s.event (happens s w) ended next × RunDoes m steps (happens s w) next last
+
+-- a run, and the folder of its server, which begins with the collections that the run begins with
+pub record RunOver {D : Type 0} (m : FolderModel D) (o : Origin) : Type 0 where
+  pub run : RunFrom o
+  pub first : D
+  pub last : D
+  pub loaded : HasCollections m first o.maps
+  pub does : RunDoes m run.steps (first_world o) first last
+
+-- the world at its end
+abbrev pub end_of : {D : Type 0} {m : FolderModel D} {o : Origin} → RunOver m o → World
+end_of r = last_world r.run
+
+-- a next step from this world, and the folder when the server has made it
+pub record NextStep {D : Type 0} (m : FolderModel D) (w : World) (folder : D) : Type 0 where
+  pub step : WorldStep
+  pub merged : HasMerged step w
+  pub ended : D
+  pub does : StepDoes m step.event w (happens step w) folder ended
 
 -- ---- what a crash leaves
 

@@ -22,7 +22,7 @@ pub returns-clause-after : goal.returns-clause-after
 returns-clause-after g c = step-after g.F.Folder.model
 
 pub returns-clause-idle : goal.returns-clause-idle
-returns-clause-idle g c o r first last next = λ has does stay. idle-survives g.F.Folder.model o r first last has does next stay
+returns-clause-idle g c = idle-survives g.F.Folder.model
 
 pub returns-clause-calls : goal.returns-clause-calls
 returns-clause-calls g c = calls-do g.F.Folder.model
