@@ -1,5 +1,5 @@
 -- What a delivery does, from the calls of its step.
-use Rattle.std.proofs.Common.{◌≡◌, ◌≢◌, ◌⊎◌, ℕ, List, [], ◌∷◌, ◌++◌, Bool, true, false, Option, Some, Result, Ok, Err, refl, ap, sym, ◌∙◌, subst, inl, inr, append-nil}
+use Rattle.std.proofs.Common.{◌≡◌, ◌⊎◌, List, [], ◌∷◌, ◌++◌, true, false, Option, Some, Ok, refl, sym, ◌∙◌, subst, inl, inr, append-nil}
 use Rattle.std.proofs.lemmas.List.{append_cancel_left}
 use Rattle.tws_file.specs.declared.«ruleset».Ruleset.{Ruleset}
 use Rattle.tws_file.specs.declared.«ruleset».Ruleset.TheVariants.{Lynx, Ms}
@@ -7,12 +7,12 @@ use Rattle.tws_best.specs.Best.{Collected, collection_text}
 use Rattle.folders.specs.Folder.{FolderModel}
 use Rattle.archive_table.specs.Table.{Maps, Taken, Grant, all, no_memory, unkept, map_of}
 use Rattle.archive_table.specs.Keeper.{Keeping, keeping, KeepsOne, KeepsMaps, FailsKeep, FailsKeepOf, StepKeeps}
-use Rattle.archive_model.specs.World.{World, WorldStep, Origin, RunFrom, last_world, happens, HasMerged}
+use Rattle.archive_model.specs.World.{World, Origin, RunFrom, last_world, happens}
 use Rattle.archive_model.specs.Restarts.{HaveOwnRuleset, DeliveryKeeps}
 use Rattle.archive_theorem.proofs.Remaining.{StepTakes, step-takes}
 use Rattle.archive_theorem.proofs.Happening.{step-holds, last-holds}
 use Rattle.archive_theorem.proofs.Persisting.{maps-are, own-ruleset}
-use Rattle.archive_durable.specs.Crashes.{KeepDoes, StayKept, OnlyChanges, KeepsChange, RefusesKeep, CallsDo, DeliveryDoes, delivery, DoesAsStepKeeps}
+use Rattle.archive_durable.specs.Crashes.{KeepDoes, StayKept, OnlyChanges, RefusesKeep, CallsDo, DeliveryDoes, delivery, DoesAsStepKeeps}
 
 only_lynx : (old new : Maps) → new.ms ≡ old.ms → OnlyChanges Lynx old new
 only_lynx old new same Lynx differs = absurd (differs refl)

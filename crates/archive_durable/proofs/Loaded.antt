@@ -88,7 +88,8 @@ abbrev pub LoadsEither : Ruleset → Option (List ℕ) → (old new : Maps) → 
 LoadsEither rules text old new = IsLoaded rules text (map_of rules old) ⊎ IsLoaded rules text (map_of rules new)
 
 -- If they differ in one collection alone, two texts are loaded as the first or as the second.
-pub pair-either : (texts : Ruleset → Option (List ℕ)) (old new : Maps) (rules : Ruleset) → OnlyChanges rules old new → LoadsEither rules (texts rules) old new →
+pub pair-either : (texts : Ruleset → Option (List ℕ)) (old new : Maps) (rules : Ruleset) → OnlyChanges rules old new →
+    LoadsEither rules (texts rules) old new →
     ((other : Ruleset) → other ≢ rules → IsLoaded other (texts other) (map_of other old)) → LoadsPair texts old ⊎ LoadsPair texts new
 pair-either texts old new rules only (inl own) others = inl (by_ruleset (λ r. IsLoaded r (texts r) (map_of r old)) rules own others)
 pair-either texts old new rules only (inr own) others =

@@ -1,37 +1,39 @@
 -- A perfect folder does what each run asks.
-use Rattle.std.proofs.Common.{◌≡◌, ◌≢◌, ◌⊎◌, ◌≤◌, ℕ, ◌==◌, List, [], ◌∷◌, ◌++◌, length, Option, None, Some, Result, Ok, Err, slice_get, refl, ap, sym, ◌∙◌, subst, inl, inr, arith}
+use Rattle.std.proofs.Common.{◌≡◌, ◌≢◌, ◌⊎◌, ◌≤◌, ℕ, ◌==◌, List, [], ◌∷◌, ◌++◌, length, Option, None, Some, slice_get, refl, ap, sym, ◌∙◌, subst, inl, inr, arith}
 use Rattle.std.proofs.lemmas.Option.{same_Some}
 use Rattle.tws_file.specs.declared.«ruleset».Ruleset.{Ruleset}
 use Rattle.tws_file.specs.declared.«ruleset».Ruleset.TheVariants.{Lynx, Ms}
-use Rattle.tws_file.specs.Text.{File, IsText, IsReadable}
+use Rattle.tws_file.specs.Text.{File, IsReadable}
 use Rattle.tws_reader.proofs.Readability.{readable_or_not}
 use Rattle.tws_best.specs.Best.{collection_text}
 use Rattle.folders.specs.Folder.{Stays}
 use Rattle.folders.specs.Publishing.{Replaces, HasOnly}
 use Rattle.archive_client.specs.Client.{Operation, is_too_long}
 use Rattle.tftp_packet.specs.declared.endpoint.Endpoint.{Endpoint}
-use Rattle.archive_table.specs.Table.{Maps, Taken, Grant, all, Merges, IsMerged, MergesIntoOwn, map_of, transfer_at}
+use Rattle.archive_table.specs.Table.{Maps, Taken, Grant, all, IsMerged, MergesIntoOwn, map_of, transfer_at}
 use Rattle.archive_table.specs.declared.keep_fault.KeepFault.TheVariants.{Device}
 use Rattle.archive_table.specs.Keeper.{IsLoaded}
-use Rattle.archive_keepers.specs.Names.{kept_name, draft_name}
-use Rattle.archive_model.specs.World.{Event, begin, deliver, client_times_out, server_times_out, stray, restart, unknown_keep, World, WorldStep, Origin, RunFrom, first_world, run_from, happens, event_happens, AllMerged, wanted_by, Datagram, client_at, has_begun}
+use Rattle.archive_keepers.specs.Names.{kept_name}
+use Rattle.archive_model.specs.World.{Event, begin, deliver, client_times_out, server_times_out, stray, restart, unknown_keep, World, WorldStep, Origin, RunFrom, first_world, happens, event_happens, AllMerged, wanted_by, Datagram, client_at, has_begun}
 use Rattle.archive_theorem.proofs.Invariant.{AreBest, first-best}
 use Rattle.archive_theorem.proofs.Remaining.{StepTakes, step-takes, GrantedBy, timeout_leaves, begins_remain, waits_remain, strays_remain}
 use Rattle.archive_theorem.proofs.Collecting.{step-best}
 use Rattle.archive_theorem.proofs.Totality.{merged-of}
-use Rattle.archive_durable.specs.Crashes.{Replacing, StayKept, OnlyChanges, KeepsChange, DeliveryDoes, MayKeep, StepDoes, HasCollections, MayRemain, ComesNext, RunDoes, RunOver}
+use Rattle.archive_durable.specs.Crashes.{Replacing, StayKept, OnlyChanges, KeepsChange, MayKeep, StepDoes, HasCollections, ComesNext, RunDoes, RunOver}
 use Rattle.archive_durable.specs.Perfect.{PerfectFolder, HasText, HadText, perfect, perfect_with, had_only}
-use Rattle.archive_durable.proofs.Loaded.{by_ruleset, ms_other, lynx_other, loads-own}
+use Rattle.archive_durable.proofs.Loaded.{by_ruleset, loads-own}
 
 -- ---- one folder
 
 -- what can be read is the collection's own text
-own_text : (taken : List Taken) (maps : Maps) → AreBest taken maps → (rules : Ruleset) (text : Option (List ℕ)) → HasText maps (kept_name rules) text →
+own_text : (taken : List Taken) (maps : Maps) → AreBest taken maps → (rules : Ruleset) (text : Option (List ℕ)) →
+    HasText maps (kept_name rules) text →
     IsLoaded rules text (map_of rules maps)
 own_text taken maps best rules text is =
     subst (λ (o : Option (List ℕ)). IsLoaded rules o (map_of rules maps)) (sym (is rules refl)) (loads-own taken maps best rules)
 
-perfect_has : (taken : List Taken) (maps : Maps) → AreBest taken maps → (before : List Maps) → HasCollections perfect (record { now = maps; before = before }) maps
+perfect_has : (taken : List Taken) (maps : Maps) → AreBest taken maps → (before : List Maps) →
+    HasCollections perfect (record { now = maps; before = before }) maps
 perfect_has taken maps best before = record { read = own_text taken maps best; left = own_text taken maps best }
 
 none_later : (f : PerfectFolder) (name : List ℕ) → Stays perfect f f name
@@ -75,7 +77,8 @@ module _ (f : PerfectFolder) (new : Maps) (rules : Ruleset) (only : OnlyChanges 
       since text (inl is) = other_text other apart text is
       since text (inr past) = had_only f.now f.before other text past.1
 
-      earlier : (t : ℕ) (text : Option (List ℕ)) → t ≤ length f.before → HadText t new (f.now ∷ f.before) other text → HadText t f.now f.before other text
+      earlier : (t : ℕ) (text : Option (List ℕ)) → t ≤ length f.before → HadText t new (f.now ∷ f.before) other text →
+          HadText t f.now f.before other text
       earlier t text le (inl is) = perfect.counts_now f t other text le (other_text other apart text is)
       earlier t text le (inr past) = past.1
 
@@ -122,7 +125,8 @@ own_changes Lynx file old new merges Ms differs = merges.1
 own_changes Ms file old new merges Lynx differs = merges.1
 own_changes Ms file old new merges Ms differs = absurd (differs refl)
 
-only_one : (bytes : List ℕ) (old new : Maps) → IsMerged bytes old new → IsReadable bytes ⊎ (IsReadable bytes → ⊥) → (rules : Ruleset) × OnlyChanges rules old new
+only_one : (bytes : List ℕ) (old new : Maps) → IsMerged bytes old new → IsReadable bytes ⊎ (IsReadable bytes → ⊥) →
+    (rules : Ruleset) × OnlyChanges rules old new
 only_one bytes old new merged (inl r) = (r.0.ruleset, own_changes r.0.ruleset r.0 old new (merged.readable r.0 r.1))
 only_one bytes old new merged (inr never) =
     (Lynx, λ other differs. ap (map_of other) (merged.unreadable (λ f text. never (f, text))))

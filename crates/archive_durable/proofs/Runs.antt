@@ -3,7 +3,7 @@ use Rattle.std.proofs.Common.{◌≡◌, ◌⊎◌, ℕ, ◌==◌, List, [], ◌
 use Rattle.folders.specs.Folder.{FolderModel}
 use Rattle.archive_client.specs.Client.{is_too_long}
 use Rattle.archive_table.specs.Table.{Maps, Taken, Grant, Merges, IsMerged, transfer_at}
-use Rattle.archive_model.specs.World.{Datagram, Event, begin, deliver, client_times_out, server_times_out, stray, restart, unknown_keep, World, WorldStep, client_at, has_begun, Origin, RunFrom, first_world, last_world, run_from, happens, event_happens, HasMerged, AllMerged, IsPrefix, wanted_by, wanted_of, maps_found, ends_if, ends_at}
+use Rattle.archive_model.specs.World.{Datagram, Event, begin, deliver, client_times_out, server_times_out, stray, restart, unknown_keep, World, WorldStep, client_at, has_begun, Origin, first_world, run_from, happens, event_happens, AllMerged, IsPrefix, wanted_by, wanted_of, maps_found, ends_if, ends_at}
 use Rattle.archive_model.proofs.Places.{IsPrefix-same}
 use Rattle.archive_model.proofs.Growing.{step-extends}
 use Rattle.archive_theorem.proofs.Invariant.{Holds, AreBest, first-holds}

@@ -96,16 +96,19 @@ module _ {D : Type 0} (m : FolderModel D) where
       new_text : (text : Option (List ℕ)) → text ≡ Some (collection_text (map_of rules tried)) → IsLoaded rules text (map_of rules tried)
       new_text text is = subst (λ (o : Option (List ℕ)). IsLoaded rules o (map_of rules tried)) (sym is) own
 
-      read_either : (text : Option (List ℕ)) → m.reads d (kept_name rules) text ⊎ (text ≡ Some (collection_text (map_of rules tried))) → LoadsEither rules text old tried
+      read_either : (text : Option (List ℕ)) → m.reads d (kept_name rules) text ⊎ (text ≡ Some (collection_text (map_of rules tried))) →
+          LoadsEither rules text old tried
       read_either text (inl was) = inl (has.read rules text was)
       read_either text (inr is) = inr (new_text text is)
 
-      left_either : (text : Option (List ℕ)) → m.leaves d (kept_name rules) text ⊎ (text ≡ Some (collection_text (map_of rules tried))) → LoadsEither rules text old tried
+      left_either : (text : Option (List ℕ)) → m.leaves d (kept_name rules) text ⊎ (text ≡ Some (collection_text (map_of rules tried))) →
+          LoadsEither rules text old tried
       left_either text (inl was) = inl (has.left rules text was)
       left_either text (inr is) = inr (new_text text is)
 
       -- a crash at any moment of it leaves the old collections or the new ones
-      pub keep-since : (lynx ms : Option (List ℕ)) → m.left_since e (m.moment d) (kept_name Lynx) lynx → m.left_since e (m.moment d) (kept_name Ms) ms →
+      pub keep-since : (lynx ms : Option (List ℕ)) → m.left_since e (m.moment d) (kept_name Lynx) lynx →
+          m.left_since e (m.moment d) (kept_name Ms) ms →
           LoadsPair (pick lynx ms) old ⊎ LoadsPair (pick lynx ms) tried
       keep-since lynx ms is_lynx is_ms =
           let since : (x : Ruleset) → m.left_since e (m.moment d) (kept_name x) (pick lynx ms x) =

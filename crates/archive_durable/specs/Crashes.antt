@@ -23,7 +23,8 @@ pub record Replacing {D : Type 0} (m : FolderModel D) (old new : D) (rules : Rul
 
 -- What a call of a `FolderKeeper` makes of its folder, by what it returns and whether the keeper is still usable: the text
 -- was kept; or it was not; or that is unknown.
-abbrev pub KeepDoes : {D : Type 0} (m : FolderModel D) (old new : D) (rules : Ruleset) (text : List ℕ) → Result (Unit {0}) KeepFault → (usable : Bool) → Type 0
+abbrev pub KeepDoes : {D : Type 0} (m : FolderModel D) (old new : D) (rules : Ruleset) (text : List ℕ) → Result (Unit {0}) KeepFault →
+    (usable : Bool) → Type 0
 KeepDoes m old new rules text (Ok done) usable = Replacing m old new rules text × HasOnly m new (kept_name rules) text
 KeepDoes m old new rules text (Err fault) true = Replacing m old new rules text × Stays m old new (kept_name rules)
 KeepDoes m old new rules text (Err fault) false = Replacing m old new rules text

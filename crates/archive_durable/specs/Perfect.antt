@@ -22,11 +22,13 @@ abbrev pub HadText : ℕ → Maps → (before : List Maps) → (name : List ℕ)
 HadText count now [] name text = HasText now name text
 HadText count now (last ∷ before) name text = HasText now name text ⊎ ((count ≤ length before) × HadText count last before name text)
 
-pub had_now : (count : ℕ) (now : Maps) (before : List Maps) (name : List ℕ) (text : Option (List ℕ)) → HasText now name text → HadText count now before name text
+pub had_now : (count : ℕ) (now : Maps) (before : List Maps) (name : List ℕ) (text : Option (List ℕ)) → HasText now name text →
+    HadText count now before name text
 had_now count now [] name text is = is
 had_now count now (last ∷ before) name text is = inl is
 
-pub had_only : (now : Maps) (before : List Maps) (name : List ℕ) (text : Option (List ℕ)) → HadText (length before) now before name text → HasText now name text
+pub had_only : (now : Maps) (before : List Maps) (name : List ℕ) (text : Option (List ℕ)) → HadText (length before) now before name text →
+    HasText now name text
 had_only now [] name text is = is
 had_only now (last ∷ before) name text (inl is) = is
 had_only now (last ∷ before) name text (inr earlier) = absurd (not-suc-le_self (length before) earlier.0)

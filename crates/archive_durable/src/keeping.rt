@@ -24,7 +24,8 @@ pub fn keep<F: Folder, A: Allocator>(
     ruleset: Ruleset,
     collection: &Collection<A>,
 ) -> Result<(), KeepFault>
-    ensures { F.has_model ≡ true → KeepDoes F.model keeper.old.folder keeper.new.folder «ruleset» (collection_text collection.now) result keeper.new.is_usable }
+    ensures { F.has_model ≡ true →
+        KeepDoes F.model keeper.old.folder keeper.new.folder «ruleset» (collection_text collection.now) result keeper.new.is_usable }
 {
     keeper.keep(ruleset, collection)
 }
@@ -39,7 +40,8 @@ pub fn load<F: Folder, A: Allocator>(
     alloc: A,
     ruleset: Ruleset,
 ) -> Result<Option<Vec<u8, A>>, KeepFault>
-    ensures found { F.has_model ≡ true → (maps : Maps) → HasCollections F.model keeper.old.folder maps → IfOk result (λ found. IsLoaded «ruleset» (texts_of found) (map_of «ruleset» maps)) }
+    ensures found { F.has_model ≡ true → (maps : Maps) → HasCollections F.model keeper.old.folder maps →
+        IfOk result (λ found. IsLoaded «ruleset» (texts_of found) (map_of «ruleset» maps)) }
     ensures stay { F.has_model ≡ true → StayKept F.model keeper.old.folder keeper.new.folder }
 {
     keeper.load(alloc, ruleset)
