@@ -1,0 +1,6 @@
+mod Calls
+mod Loaded
+mod Steps
+mod Runs
+mod Perfect_Runs
+mod Delivery_Calls
