@@ -9,9 +9,9 @@ use Rattle.archive_table.specs.Table.{Maps, Taken, Grant, all, no_memory, unkept
 use Rattle.archive_table.specs.Keeper.{Keeping, keeping, KeepsOne, KeepsMaps, FailsKeep, FailsKeepOf, StepKeeps}
 use Rattle.archive_model.specs.World.{World, Origin, RunFrom, last_world, happens}
 use Rattle.archive_model.specs.Restarts.{HaveOwnRuleset, DeliveryKeeps}
-use Rattle.archive_theorem.proofs.Remaining.{StepTakes, step-takes}
-use Rattle.archive_theorem.proofs.Happening.{step-holds, last-holds}
-use Rattle.archive_theorem.proofs.Persisting.{maps-are, own-ruleset}
+use Rattle.archive_theorem.proofs.Headline_Remains.{StepTakes, step-takes}
+use Rattle.archive_theorem.proofs.Event_Happens.{step-holds, last-holds}
+use Rattle.archive_theorem.proofs.Keeper_Runs.{maps-are, own-ruleset}
 use Rattle.archive_durable.specs.Crashes.{KeepDoes, StayKept, OnlyChanges, RefusesKeep, CallsDo, DeliveryDoes, delivery, DoesAsStepKeeps}
 
 only_lynx : (old new : Maps) → new.ms ≡ old.ms → OnlyChanges Lynx old new

@@ -7,10 +7,10 @@ use Rattle.archive_table.specs.Table.{Maps, Taken, map_of}
 use Rattle.archive_table.specs.Keeper.{IsLoaded, last_kept}
 use Rattle.archive_model.specs.World.{World, IsPrefix}
 use Rattle.archive_model.specs.Restarts.{LoadsAs}
-use Rattle.archive_theorem.proofs.Invariant.{Holds, AreBest}
-use Rattle.archive_theorem.proofs.Loading.{loads_itself, loads-as, fails-outside}
-use Rattle.archive_theorem.proofs.Persisting.{maps-are, fit-best, own-ruleset}
-use Rattle.archive_theorem.proofs.Enduring.{holds-promised}
+use Rattle.archive_theorem.proofs.Claim_Invariant.{Holds, AreBest}
+use Rattle.archive_theorem.proofs.Keeper_Loads.{loads_itself, loads-as, fails-outside}
+use Rattle.archive_theorem.proofs.Keeper_Runs.{maps-are, fit-best, own-ruleset}
+use Rattle.archive_theorem.proofs.Keeper_Holds.{holds-promised}
 use Rattle.archive_durable.specs.Crashes.{OnlyChanges, list_of, LoadsAllPromised}
 
 -- ---- rulesets

@@ -15,10 +15,10 @@ use Rattle.archive_table.specs.declared.keep_fault.KeepFault.TheVariants.{Device
 use Rattle.archive_table.specs.Keeper.{IsLoaded}
 use Rattle.archive_keepers.specs.Names.{kept_name}
 use Rattle.archive_model.specs.World.{Event, begin, deliver, client_times_out, server_times_out, stray, restart, unknown_keep, World, WorldStep, Origin, RunFrom, first_world, happens, event_happens, AllMerged, wanted_by, Datagram, client_at, has_begun}
-use Rattle.archive_theorem.proofs.Invariant.{AreBest, first-best}
-use Rattle.archive_theorem.proofs.Remaining.{StepTakes, step-takes, GrantedBy, timeout_leaves, begins_remain, waits_remain, strays_remain}
-use Rattle.archive_theorem.proofs.Collecting.{step-best}
-use Rattle.archive_theorem.proofs.Totality.{merged-of}
+use Rattle.archive_theorem.proofs.Claim_Invariant.{AreBest, first-best}
+use Rattle.archive_theorem.proofs.Headline_Remains.{StepTakes, step-takes, GrantedBy, timeout_leaves, begins_remain, waits_remain, strays_remain}
+use Rattle.archive_theorem.proofs.Headline_Collections.{step-best}
+use Rattle.archive_theorem.proofs.Headline_Total.{merged-of}
 use Rattle.archive_durable.specs.Crashes.{Replacing, StayKept, OnlyChanges, KeepsChange, MayKeep, StepDoes, HasCollections, ComesNext, RunDoes, RunOver}
 use Rattle.archive_durable.specs.Perfect.{PerfectFolder, HasText, HadText, perfect, perfect_with, had_only}
 use Rattle.archive_durable.proofs.Loaded.{by_ruleset, loads-own}

@@ -6,11 +6,11 @@ use Rattle.archive_table.specs.Table.{Maps, Taken, Grant, Merges, IsMerged, tran
 use Rattle.archive_model.specs.World.{Datagram, Event, begin, deliver, client_times_out, server_times_out, stray, restart, unknown_keep, World, WorldStep, client_at, has_begun, Origin, first_world, run_from, happens, event_happens, AllMerged, IsPrefix, wanted_by, wanted_of, maps_found, ends_if, ends_at}
 use Rattle.archive_model.proofs.Places.{IsPrefix-same}
 use Rattle.archive_model.proofs.Growing.{step-extends}
-use Rattle.archive_theorem.proofs.Invariant.{Holds, AreBest, first-holds}
-use Rattle.archive_theorem.proofs.Merging.{best-taken}
-use Rattle.archive_theorem.proofs.Remaining.{timeout_leaves, begins_remain, waits_remain, strays_remain}
-use Rattle.archive_theorem.proofs.Happening.{step-holds, last-holds}
-use Rattle.archive_theorem.proofs.Totality.{not_more, one_last}
+use Rattle.archive_theorem.proofs.Claim_Invariant.{Holds, AreBest, first-holds}
+use Rattle.archive_theorem.proofs.Server_Merges.{best-taken}
+use Rattle.archive_theorem.proofs.Headline_Remains.{timeout_leaves, begins_remain, waits_remain, strays_remain}
+use Rattle.archive_theorem.proofs.Event_Happens.{step-holds, last-holds}
+use Rattle.archive_theorem.proofs.Headline_Total.{not_more, one_last}
 use Rattle.archive_durable.specs.Crashes.{StayKept, DeliveryDoes, MayKeep, StepDoes, HasCollections, ComesNext, IsKnownNext, RunDoes, RunOver, end_of, NextStep, LoadsAllPromised, SurvivesNow, SurvivesSince}
 use Rattle.archive_durable.proofs.Loaded.{pick, LoadsPair, loads-promised, loads-own}
 use Rattle.archive_durable.proofs.Steps.{stay-has, stay-since, now-pair, finds-has, refused-stay, kept-has, keep-since, keep-found}

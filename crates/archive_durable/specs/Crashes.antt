@@ -31,7 +31,7 @@ KeepDoes m old new rules text (Err fault) false = Replacing m old new rules text
 
 -- ---- a step of the server
 
--- the collections are as they were, as far as the folder can show it
+-- under the name of each collection nothing is possible that was not, and a crash at any moment left what was possible before
 abbrev pub StayKept : {D : Type 0} (m : FolderModel D) (old new : D) → Type 0
 StayKept m old new = (rules : Ruleset) → Stays m old new (kept_name rules)
 
@@ -56,17 +56,17 @@ pub record RefusesKeep {D : Type 0} (m : FolderModel D) (old new : D) : Type 0 w
 abbrev pub DeliveryDoes : {D : Type 0} (m : FolderModel D) (was is : Maps) (old new : D) → Type 0
 DeliveryDoes m was is old new = KeepsChange m was is old new ⊎ ((is ≡ was) × (StayKept m old new ⊎ RefusesKeep m old new))
 
--- What a call made of the folder, which is this in the list of a keeper that has one.
+-- What a call of `keep` with a known outcome does, by its entry in the list of a keeper that has one.
 abbrev pub CallDoes : {D : Type 0} (m : FolderModel D) → (ok : Bool) (rules : Ruleset) (text : List ℕ) (old new : D) → Type 0
 CallDoes m true rules text old new = KeepDoes m old new rules text (Ok tt) true
 CallDoes m false rules text old new = (fault : KeepFault) × KeepDoes m old new rules text (Err fault) true
 
--- and what the calls of one step did, of which there is at most one
+-- what the calls of one step do, of which there is at most one
 abbrev pub CallsDo : {D : Type 0} (m : FolderModel D) (calls : List Keeping) (old new : D) → Type 0
 CallsDo m [] old new = StayKept m old new
 CallsDo m (k ∷ ks) old new = (ks ≡ []) × CallDoes m k.ok k.«ruleset» k.text old new
 
--- A keep of what the file makes of the collections, and whether it was kept is unknown.
+-- A keep of what the file makes of the collections: it is unknown whether it was kept, or the server was killed in it.
 pub record MayKeep {D : Type 0} (m : FolderModel D) (wanted : Option Taken) (was : Maps) (old new : D) : Type 0 where
   pub tried : Maps
   pub merges : Merges wanted was tried

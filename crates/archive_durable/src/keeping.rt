@@ -1,6 +1,7 @@
 //! The calls of a keeper over a folder.
 
-ghost use Rattle.std.specs.Prelude.{◌≡◌, true, IfOk};
+ghost use Rattle.std.specs.Prelude.{◌≡◌, true, IfOk, OnErr};
+ghost use Rattle.byte_output.specs.Failures.{Rises};
 ghost use Rattle.tws_best.specs.Best.{collection_text};
 ghost use Rattle.archive_table.specs.Table.{Maps, map_of};
 ghost use Rattle.archive_table.specs.Keeper.{IsLoaded};
@@ -24,8 +25,9 @@ pub fn keep<F: Folder, A: Allocator>(
     ruleset: Ruleset,
     collection: &Collection<A>,
 ) -> Result<(), KeepFault>
-    ensures { F.has_model ≡ true →
+    ensures does { F.has_model ≡ true →
         KeepDoes F.model keeper.old.folder keeper.new.folder «ruleset» (collection_text collection.now) result keeper.new.is_usable }
+    ensures fault { keeper.old.is_usable ≡ true → OnErr result (Rises (F.faults keeper.old.folder) (F.faults keeper.new.folder)) }
 {
     keeper.keep(ruleset, collection)
 }
@@ -43,6 +45,7 @@ pub fn load<F: Folder, A: Allocator>(
     ensures found { F.has_model ≡ true → (maps : Maps) → HasCollections F.model keeper.old.folder maps →
         IfOk result (λ found. IsLoaded «ruleset» (texts_of found) (map_of «ruleset» maps)) }
     ensures stay { F.has_model ≡ true → StayKept F.model keeper.old.folder keeper.new.folder }
+    ensures fault { OnErr result (Rises (F.faults keeper.old.folder) (F.faults keeper.new.folder)) }
 {
     keeper.load(alloc, ruleset)
 }
