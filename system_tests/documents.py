@@ -33,7 +33,7 @@ MADE_FILES = {"dist/tws.html"}
 
 # Options of other programs, and of `check`.
 FOREIGN_OPTIONS = set("""
---quick --backend --branch-sim --dump-instr --fix-imports --incremental --jobs --only --option --test --tftp-no-options --tool
+--quick --backend --branch-sim --dump-instr --fix-imports --incremental --jobs --now --only --option --test --tftp-no-options --tool
 """.split())
 
 # The programs that sessions run, each with what the commands that need it have in them.
