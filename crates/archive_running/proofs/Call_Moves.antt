@@ -329,6 +329,7 @@ module _ (o : Origin) (host : ℕ) (away : host ≢ o.home.host) where
       run = r;
       has_begun = refl;
       client = c;
+      there = ap (λ (cs : List (Endpoint × Client)). lookup (is_same (own_endpoint host r)) cs) (run-mirrors o (run_to end.there)).clients ∙ end.client;
       finished = λ own.
           let fetched = run-fetched o (run_to end.there) (own_endpoint host r) own c len written now end.client got in
           let get_is = fetched.finished in

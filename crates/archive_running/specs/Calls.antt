@@ -16,7 +16,7 @@ use Rattle.archive_runs.specs.Run.{Run, RunStep, IsRunTurn, MakesRunTurns, Runs,
 use Rattle.archive_runs.specs.Run as run
 use Rattle.archive_runs.specs.Rounds.{asking, IsRunRound, has_ended, MakesRunRounds, Dallies, GetInRoundsAfter}
 use Rattle.archive_runs.specs.Rounds as round
-use Rattle.archive_model.specs.World.{World, Origin, empty_origin, first_world, server_endpoint}
+use Rattle.archive_model.specs.World.{World, Origin, empty_origin, first_world, server_endpoint, client_at}
 use Rattle.archive_theorem.specs.Headline.{IsOwn, SentOnce}
 use Rattle.archive_theorem.specs.Traces.{Member, starts, trace_from}
 use Rattle.archive_running.specs.Members.{does, visit_members, late_members, client_members, round_members}
@@ -188,7 +188,9 @@ pub record PutWasTaken (host : ℕ) (file : List ℕ) (begun : Result Run RunFau
 pub record GetWasWritten (host : ℕ) (rules : Ruleset) (begun : Result Run RunFault) (len : ℕ) (w : World) (written now : Option (List ℕ)) : Type 0 where
   pub run : Run
   pub has_begun : begun ≡ Ok run
+  -- the client that has fetched it
   pub client : Client
+  pub there : client_at (own_endpoint host run) w ≡ Some client
   pub finished : IsOwn w (own_endpoint host run) →
       (f : WritesFinished (own_endpoint host run) client len w written now) × (f.finished.rules ≡ rules)
 
