@@ -1,5 +1,5 @@
 -- What each event of a run does to the folder of the server's keeper, and what a crash at any moment leaves there.
-use Rattle.std.specs.Prelude.{◌≡◌, ◌≢◌, ◌⊎◌, ℕ, Bool, true, false, List, [], ◌∷◌, ◌++◌, slice_get, Option, Result, Ok, Err}
+use Rattle.std.specs.Prelude.{◌≡◌, ◌≢◌, ◌⊎◌, ℕ, Bool, true, false, List, [], ◌∷◌, ◌++◌, slice_get, Option, Some, Result, Ok, Err}
 use Rattle.tws_file.specs.declared.«ruleset».Ruleset.{Ruleset}
 use Rattle.tws_file.specs.declared.«ruleset».Ruleset.TheVariants.{Lynx, Ms}
 use Rattle.tws_best.specs.Best.{collection_text}
@@ -101,6 +101,11 @@ DoesAsStepKeeps m w old new =
 pub record HasCollections {D : Type 0} (m : FolderModel D) (folder : D) (maps : Maps) : Type 0 where
   pub read : (rules : Ruleset) (text : Option (List ℕ)) → m.reads folder (kept_name rules) text → IsLoaded rules text (map_of rules maps)
   pub left : (rules : Ruleset) (text : Option (List ℕ)) → m.leaves folder (kept_name rules) text → IsLoaded rules text (map_of rules maps)
+
+-- A read gives this text of each collection, and its file holds it also after a crash.
+pub record HasFiles {D : Type 0} (m : FolderModel D) (folder : D) (text : Ruleset → Option (List ℕ)) : Type 0 where
+  pub read : (rules : Ruleset) → Only (text rules) (m.reads folder (kept_name rules))
+  pub held : (rules : Ruleset) (held : List ℕ) → m.holds folder (kept_name rules) held → Some held ≡ text rules
 
 -- A start reads this text of each collection, and a crash then leaves it.
 pub record StartsWith {D : Type 0} (m : FolderModel D) (folder : D) (text : Ruleset → Option (List ℕ)) : Type 0 where

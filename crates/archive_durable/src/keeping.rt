@@ -1,12 +1,13 @@
 //! The calls of a keeper over a folder.
 
-ghost use Rattle.std.specs.Prelude.{◌≡◌, true, IfOk, OnErr};
+ghost use Rattle.std.specs.Prelude.{◌≡◌, ℕ, List, Option, true, IfOk, OnOk, OnErr};
+ghost use Rattle.tws_file.specs.declared.«ruleset».Ruleset.{Ruleset as Rules};
 ghost use Rattle.byte_output.specs.Failures.{Rises};
 ghost use Rattle.tws_best.specs.Best.{collection_text};
 ghost use Rattle.archive_table.specs.Table.{Maps, map_of};
 ghost use Rattle.archive_table.specs.Keeper.{IsLoaded};
 ghost use Rattle.folders.specs.Folder.{texts_of};
-ghost use Rattle.archive_durable.specs.Crashes.{KeepDoes, StayKept, HasCollections};
+ghost use Rattle.archive_durable.specs.Crashes.{KeepDoes, StayKept, HasFiles, HasCollections, StartsWith};
 
 use archive_keepers::FolderKeeper;
 use archive_table::{KeepFault, Keeper};
@@ -30,6 +31,21 @@ pub fn keep<F: Folder, A: Allocator>(
     ensures fault { keeper.old.is_usable ≡ true → OnErr result (Rises (F.faults keeper.old.folder) (F.faults keeper.new.folder)) }
 {
     keeper.keep(ruleset, collection)
+}
+
+/// Clears the drafts as a start does before it loads. If then each read gives one text of a collection, which its file holds, a
+/// crash leaves what is read.
+///
+/// # Errors
+///
+/// Those of the keeper.
+pub fn clear_drafts<F: Folder>(keeper: &mut FolderKeeper<F>) -> Result<(), KeepFault>
+    ensures starts { F.has_model ≡ true → (text : Rules → Option (List ℕ)) → HasFiles F.model keeper.old.folder text →
+        OnOk result (StartsWith F.model keeper.new.folder text) }
+    ensures stay { F.has_model ≡ true → StayKept F.model keeper.old.folder keeper.new.folder }
+    ensures fault { OnErr result (Rises (F.faults keeper.old.folder) (F.faults keeper.new.folder)) }
+{
+    keeper.clear_drafts()
 }
 
 /// Loads a collection as the keeper does: if the folder has these collections, what it loads is the one of its ruleset.

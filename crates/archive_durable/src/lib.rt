@@ -7,5 +7,5 @@
 mod keeping;
 mod laws;
 
-pub use keeping::{keep, load};
+pub use keeping::{clear_drafts, keep, load};
 pub use laws::{crash_law, perfect_folder};

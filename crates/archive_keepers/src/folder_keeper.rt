@@ -1,12 +1,12 @@
 //! A keeper of the archive over a folder.
 
-ghost use Rattle.std.specs.Prelude.{◌≡◌, ◌≢◌, ◌≤◌, ℕ, List, true, false, None, Ok, Err, IfOk, OnOk, OnErr};
+ghost use Rattle.std.specs.Prelude.{◌≡◌, ◌≢◌, ◌≤◌, ℕ, List, Option, true, false, None, Ok, Err, IfOk, OnOk, OnErr};
 ghost use Rattle.tws_file.specs.declared.«ruleset».Ruleset.{Ruleset};
 ghost use Rattle.tws_best.specs.Best.{collection_text};
 ghost use Rattle.byte_output.specs.Failures.{Rises};
 ghost use Rattle.folders.specs.declared.faults.CallFailed.{CallFailed};
 ghost use Rattle.folders.specs.declared.faults.PublishFault.{PublishFault};
-ghost use Rattle.folders.specs.Folder.{Only, Stays, texts_of};
+ghost use Rattle.folders.specs.Folder.{Only, Stays, IsSettled, texts_of};
 ghost use Rattle.folders.specs.Publishing.{Replaces, HasOnly};
 ghost use Rattle.archive_keepers.specs.Names.{kept_name, draft_name};
 
@@ -68,14 +68,17 @@ impl<F: Folder> FolderKeeper<F> {
     }
 
     /// Removes the drafts that are there, as a server that was killed leaves them. Each is then created and removed once
-    /// more, so that this fails where nothing can be kept. The collections stay.
+    /// more, so that this fails where nothing can be kept. The collections stay, and the folder is synced: a collection that
+    /// was renamed before the last server was killed is then as durable as one that it acknowledged.
     ///
     /// # Errors
     ///
-    /// Those of the folder: `Device` if it cannot be written to. Then a draft may be left.
+    /// Those of the folder: `Device` if it cannot be written to, or not synced. Then a draft may be left.
     pub fn clear_drafts(&mut self) -> Result<(), KeepFault>
         ensures cleared { F.has_model ≡ true → OnOk result ((rules : Ruleset) → Only None (F.model.reads self.new.folder (draft_name rules))) }
         ensures kept { F.has_model ≡ true → (rules : Ruleset) → Stays F.model self.old.folder self.new.folder (kept_name rules) }
+        // Then a crash leaves of each collection what could be read before, as its file holds it.
+        ensures settled { F.has_model ≡ true → OnOk result ((rules : Ruleset) (left : Option (List ℕ)) → F.model.leaves self.new.folder (kept_name rules) left → IsSettled (F.model.reads self.old.folder (kept_name rules)) (F.model.holds self.old.folder (kept_name rules)) left) }
         ensures usable { self.new.is_usable ≡ self.old.is_usable }
         // It fails only if a call of the folder has failed.
         ensures fault { OnErr result (Rises (F.faults self.old.folder) (F.faults self.new.folder)) }
