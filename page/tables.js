@@ -87,7 +87,8 @@ function comparisonIn(text) {
 /** The counts of a comparison as a sentence. @param {string} line */
 function countsShown(line) {
   const count = (name) => (line.match(new RegExp(`(?:${name}) (\\d+)`)) || [0, "0"])[1];
-  return `${count("levels")} levels: ${count("only mine")} only mine, ${count("mine better")} mine better, ` +
+  const levels = count("levels") === "1" ? "1 level" : `${count("levels")} levels`;
+  return `${levels}: ${count("only mine")} only mine, ${count("mine better")} mine better, ` +
     `${count("equal|tie")} tied, ${count("theirs better")} theirs better, ${count("only theirs")} only theirs`;
 }
 
@@ -179,7 +180,7 @@ function sentShown(text) {
   const said = lines.join(" ").trim();
   if (!status) return { sent: false, words: "The web server's put.cgi gave no answer." };
   const causes = {
-    0: "Sent: the archive has taken the file.",
+    0: "Sent: the archive has taken the file. Its records here show it once they are published again.",
     1: said === "too long" ? "Not sent: the file is too long." : "Not sent: put.cgi does not take this.",
     2: "Not sent: put.cgi could not run it.",
     3: "Not sent: this is not a solution file.",

@@ -132,7 +132,9 @@ function plot(figure, rows) {
   figure.hidden = bars.length === 0;
   if (figure.hidden) return;
   const most = bars.reduce((best, row) => Math.max(best, row.ticks), 1);
-  const picture = drawn("svg", { viewBox: `0 -50 ${bars.length} 100`, preserveAspectRatio: "none", role: "img" });
+  // Few bars stay narrow.
+  const places = Math.max(bars.length, 20);
+  const picture = drawn("svg", { viewBox: `0 -50 ${places} 100`, preserveAspectRatio: "none", role: "img" });
   picture.setAttribute("aria-label", "Seconds gained by level; the table below has the same numbers");
   bars.forEach((row, i) => {
     const height = (row.ticks / most) * 48;
@@ -142,8 +144,9 @@ function plot(figure, rows) {
     bar.append(title);
     picture.append(bar);
   });
-  picture.append(drawn("line", { x1: 0, x2: bars.length, y1: 0, y2: 0, class: "axis" }));
-  const words = `Seconds gained by level, ${bars[0].level} to ${bars.at(-1).level}. Up: mine is better; down: theirs is. ` +
+  picture.append(drawn("line", { x1: 0, x2: places, y1: 0, y2: 0, class: "axis" }));
+  const [first, last] = [bars[0].level, bars.at(-1).level];
+  const words = `Seconds gained by level, ${first === last ? first : `${first} to ${last}`}. Up: mine is better; down: theirs is. ` +
     `The longest bar is ${secondsText(most)} s.`;
   figure.replaceChildren(picture, element("figcaption", words));
 }

@@ -70,7 +70,7 @@ same("filtered", tables.filtered([{ a: "Keys", b: 1 }, { a: "End", b: 10 }], " E
 same("filtered by a number", tables.filtered([{ a: "Keys", b: 1 }, { a: "End", b: 10 }], "10", ["a", "b"]), [{ a: "End", b: 10 }]);
 
 same("sent", tables.sentShown("sent 51 bytes\nstatus 0\n"),
-  { sent: true, words: "Sent: the archive has taken the file. (sent 51 bytes)" });
+  { sent: true, words: "Sent: the archive has taken the file. Its records here show it once they are published again. (sent 51 bytes)" });
 same("too long", tables.sentShown("too long\nstatus 1\n").words, "Not sent: the file is too long. (too long)");
 same("timed out", tables.sentShown("tws: transfer failed: timed out\nstatus 4\n").words,
   "Not sent: the archive does not answer. (tws: transfer failed: timed out)");
