@@ -4,8 +4,8 @@ ghost use Rattle.std.specs.Prelude.{◌≡◌, ℕ, List, Option, IfSome, None};
 
 use std::fs::File;
 use std::net::{Net, SocketAddr, ToSocketAddrs};
+use std::random::RandomSource;
 use std::rt::Files;
-use std::time::Clock;
 use system_files::System;
 
 /// Finds hosts by their names.
@@ -19,7 +19,7 @@ pub trait Resolver {
         ensures { IfSome (host_of self.now name.now) (λ host. result ≡ host) };
 }
 
-impl<P: Files<File = File> + Net + Clock + AllocGlobal + Copy> Resolver for System<P> {
+impl<P: Files<File = File> + Net + RandomSource + AllocGlobal + Copy> Resolver for System<P> {
     ghost host_of = { λ _ _. None };
 
     fn look_up(&self, name: &str) -> Option<u32> {

@@ -8,11 +8,12 @@ use crate::host_file::HostFile;
 use archive_keepers::FolderKeeper;
 use folders::{CallFault, Folder};
 use std::alloc::Allocator;
-use std::fs::{File, Metadata, OpenOptions, Permissions, TryLockError};
+use std::fs::{File, Metadata, OpenOptions, TryLockError};
 use std::io::{ErrorKind, Read};
 use std::path::Path;
 use std::rt::Files;
 use std::{fs, io};
+use system_files::permissions_kept;
 use thiserror::Error;
 
 /// Why a folder cannot be opened.
@@ -32,8 +33,8 @@ pub enum OpenFault {
 /// A keeper over a folder of the system.
 pub type DirKeeper<R> = FolderKeeper<HostFolder<R>>;
 
-/// A folder of the system. A new file gets the permissions of the file that it replaces; one that is no regular file,
-/// such as a symbolic link, is neither replaced nor opened. It has no model.
+/// A folder of the system. A new file gets the permissions of the file that it replaces, as `permissions_kept` says; one
+/// that is no regular file, such as a symbolic link, is neither replaced nor opened. It has no model.
 #[derive(Drop)]
 pub struct HostFolder<R: Files<File = File> + AllocGlobal + Copy> {
     rt: R,
@@ -91,12 +92,12 @@ fn regular<R: Files<File = File>>(rt: &R, path: Path<'_>) -> io::Result<Option<M
     }
 }
 
-// The permissions of a file, if there is one.
-fn permissions<R: Files<File = File>>(rt: &R, path: Path<'_>) -> io::Result<Option<Permissions>> {
-    match regular(rt, path)? {
-        Some(metadata) => Ok(Some(metadata.permissions())),
-        None => Ok(None),
+// Gives a new file the permissions of the one that it is to replace, as far as it may have them.
+fn keep_permissions(file: &File, old: &Metadata) -> io::Result<()> {
+    if let Some(permissions) = permissions_kept(old, &file.metadata()?) {
+        file.set_permissions(permissions)?;
     }
+    Ok(())
 }
 
 impl<R: Files<File = File> + AllocGlobal + Copy> HostFolder<R> {
@@ -211,12 +212,12 @@ impl<R: Files<File = File> + AllocGlobal + Copy> HostFolder<R> {
     fn create_file(&mut self, name: &str, target: &str) -> io::Result<HostFile>
         ensures faults { self.new.faults ≡ self.old.faults }
     {
-        let permissions = permissions(&self.rt, self.target.of(target)?)?;
+        let old = regular(&self.rt, self.target.of(target)?)?;
         let mut options = OpenOptions::new();
         options.write(true).create_new(true);
         let file = options.open(&self.rt, self.path.of(name)?)?;
-        if let Some(permissions) = permissions {
-            file.set_permissions(permissions)?;
+        if let Some(old) = old {
+            keep_permissions(&file, &old)?;
         }
         Ok(HostFile::new(file))
     }

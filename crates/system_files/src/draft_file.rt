@@ -2,70 +2,44 @@
 
 ghost use Rattle.std.specs.Prelude.{◌≤◌, length, IfOk};
 
+use crate::permissions::permissions_kept;
 use std::fs::{File, Metadata};
 use std::io::{ErrorKind, Write};
 use std::path::PathBuf;
+use std::random::RandomSource;
 use std::rt::Files;
-use std::time::{Clock, Duration};
 use std::{fs, io};
 
-// How many names are tried for a draft beside a file.
-const DRAFTS: u32 = 100;
+// How many names are tried for a draft.
+const TRIES: u32 = 8;
 
-// A draft is written and renamed at once. One that was written so many seconds ago was left by a process that ended before
-// it could rename it.
-const STALE: u64 = 60;
-
-/// A file beside another one, which it is to replace. It is made when something is written, and its name is one that
-/// nothing else has.
+/// A file in the folder of another one, which it is to replace. It is made when something is written, under a random name
+/// that nothing else has.
 #[derive(Drop)]
 pub(crate) struct DraftFile {
     // The file that it replaces, and what the system says of that.
     target: PathBuf,
     metadata: Metadata,
-    // The file beside it, and its name.
+    // The draft, and its name.
     made: Option<(File, PathBuf)>,
 }
 
-// The name of a draft, if `taken` names before it are in use.
-fn draft_name<P: AllocGlobal>(rt: &P, target: &PathBuf, taken: u32) -> io::Result<PathBuf> {
-    let target = target.as_str();
-    let name = if taken == 0 {
-        format!(in rt.alloc(); "{target}.tws-draft")
-    } else {
-        format!(in rt.alloc(); "{target}.tws-draft{taken}")
-    };
-    match name {
-        Ok(name) => Ok(PathBuf::from(name)),
-        Err(_) => Err(io::Error::from(ErrorKind::OutOfMemory)),
-    }
+// A random name in the folder of a file.
+fn draft_name<P: RandomSource + AllocGlobal>(rt: &P, target: &PathBuf) -> io::Result<PathBuf> {
+    let mut random = [0; 8];
+    rt.fill_bytes(&mut random)?;
+    let number = u64::from_le_bytes(random);
+    let name = format!(in rt.alloc(); ".tws-draft-{number:016x}")?;
+    Ok(target.with_file_name(rt.alloc(), name.as_str())?)
 }
 
-// Whether a draft of this name was left.
-fn is_stale<P: Files<File = File> + Clock>(rt: &P, draft: &PathBuf) -> bool {
-    let Ok(metadata) = fs::symlink_metadata(rt, draft.as_path()) else {
-        return false;
-    };
-    let Ok(written) = metadata.modified() else {
-        return false;
-    };
-    match written.elapsed(rt) {
-        Ok(age) => metadata.is_file() && age >= Duration::from_secs(STALE),
-        Err(_) => false,
-    }
-}
-
-// A new file beside a file, and its name.
-fn create<P: Files<File = File> + Clock + AllocGlobal>(
+// A new file in the folder of a file, and its name.
+fn create<P: Files<File = File> + RandomSource + AllocGlobal>(
     rt: &P,
     target: &PathBuf,
 ) -> io::Result<(File, PathBuf)> {
-    for taken in 0..DRAFTS {
-        let draft = draft_name(rt, target, taken)?;
-        if is_stale(rt, &draft) {
-            // One that cannot be removed stays, and the next name is tried.
-            let _ = fs::remove_file(rt, draft.as_path());
-        }
+    for _try in 0..TRIES {
+        let draft = draft_name(rt, target)?;
         match File::create_new(rt, draft.as_path()) {
             Ok(file) => return Ok((file, draft)),
             Err(e) => {
@@ -80,8 +54,10 @@ fn create<P: Files<File = File> + Clock + AllocGlobal>(
 
 // Gives a new file the permissions of the one that it replaces. If a standard stream is closed, the new file gets its
 // descriptor, and what is printed would go into the file: the clone that is returned never has such a descriptor.
-fn prepare(file: &File, metadata: &Metadata) -> io::Result<File> {
-    file.set_permissions(metadata.permissions())?;
+fn prepare(file: &File, old: &Metadata) -> io::Result<File> {
+    if let Some(permissions) = permissions_kept(old, &file.metadata()?) {
+        file.set_permissions(permissions)?;
+    }
     file.try_clone()
 }
 
@@ -96,7 +72,7 @@ impl DraftFile {
     }
 
     /// Makes the file, if it is not made yet.
-    pub(crate) fn make<P: Files<File = File> + Clock + AllocGlobal>(
+    pub(crate) fn make<P: Files<File = File> + RandomSource + AllocGlobal>(
         &mut self,
         rt: &P,
     ) -> io::Result<()> {
@@ -125,7 +101,7 @@ impl DraftFile {
     }
 
     /// Writes bytes into the file, which is made first, and returns how many.
-    pub(crate) fn write<P: Files<File = File> + Clock + AllocGlobal>(
+    pub(crate) fn write<P: Files<File = File> + RandomSource + AllocGlobal>(
         &mut self,
         rt: &P,
         buf: &[u8],
@@ -140,7 +116,7 @@ impl DraftFile {
     }
 
     /// Puts the file in place of the one that it replaces, once it is on the disk.
-    pub(crate) fn replace<P: Files<File = File> + Clock + AllocGlobal>(
+    pub(crate) fn replace<P: Files<File = File> + RandomSource + AllocGlobal>(
         &mut self,
         rt: &P,
     ) -> io::Result<()> {

@@ -6,11 +6,13 @@
 
 mod draft_file;
 mod file_system;
+mod permissions;
 mod system;
 mod system_draft;
 mod with_last_error;
 
 pub use file_system::FileSystem;
+pub use permissions::permissions_kept;
 pub use system::{System, SystemFile};
 pub use system_draft::SystemDraft;
 pub use with_last_error::WithLastError;

@@ -7,8 +7,8 @@ use crate::file_system::FileSystem;
 use crate::system_draft::{Place, SystemDraft};
 use std::fs::{File, Metadata, OpenOptions};
 use std::io::{ErrorKind, Read};
+use std::random::RandomSource;
 use std::rt::Files;
-use std::time::Clock;
 use std::{fs, io};
 
 /// The files of the system, as a runtime opens them. They have no ghost contents.
@@ -16,7 +16,7 @@ use std::{fs, io};
 /// A draft is a file beside its target. Where none can be made there, or the target is new or not a regular file, it is
 /// written into the target itself.
 #[derive(Clone, Copy)]
-pub struct System<P: Files<File = File> + Clock + AllocGlobal + Copy>(pub P);
+pub struct System<P: Files<File = File> + RandomSource + AllocGlobal + Copy>(pub P);
 
 /// A file of the system that is open to be read. It has no ghost contents.
 #[derive(Drop)]
@@ -36,7 +36,7 @@ fn is_forbidden(kind: ErrorKind) -> bool {
     )
 }
 
-impl<P: Files<File = File> + Clock + AllocGlobal + Copy> System<P> {
+impl<P: Files<File = File> + RandomSource + AllocGlobal + Copy> System<P> {
     // A draft that is written into the file itself.
     fn begin_itself(&self, name: &str) -> io::Result<SystemDraft<P>> {
         // If a standard stream is closed, the new file gets its descriptor, and what is printed would go into the file. A
@@ -74,7 +74,7 @@ impl<P: Files<File = File> + Clock + AllocGlobal + Copy> System<P> {
     }
 }
 
-impl<P: Files<File = File> + Clock + AllocGlobal + Copy> FileSystem for System<P> {
+impl<P: Files<File = File> + RandomSource + AllocGlobal + Copy> FileSystem for System<P> {
     type File = SystemFile;
 
     type Draft = SystemDraft<P>;

@@ -6,8 +6,8 @@ use crate::draft_file::DraftFile;
 use std::fs::File;
 use std::io;
 use std::io::Write;
+use std::random::RandomSource;
 use std::rt::Files;
-use std::time::Clock;
 
 // Where a draft is written.
 #[derive(Drop)]
@@ -22,7 +22,7 @@ pub(crate) enum Place {
 
 /// What is to become the contents of a file of the system. It has no ghost contents.
 #[derive(Drop)]
-pub struct SystemDraft<P: Files<File = File> + Clock + AllocGlobal + Copy> {
+pub struct SystemDraft<P: Files<File = File> + RandomSource + AllocGlobal + Copy> {
     rt: P,
     place: Place,
     // How many bytes were written.
@@ -31,7 +31,7 @@ pub struct SystemDraft<P: Files<File = File> + Clock + AllocGlobal + Copy> {
     error: Option<io::Error>,
 }
 
-impl<P: Files<File = File> + Clock + AllocGlobal + Copy> SystemDraft<P> {
+impl<P: Files<File = File> + RandomSource + AllocGlobal + Copy> SystemDraft<P> {
     /// An empty draft that is written there.
     pub(crate) fn new(rt: P, place: Place) -> Self {
         SystemDraft {
@@ -66,7 +66,7 @@ impl<P: Files<File = File> + Clock + AllocGlobal + Copy> SystemDraft<P> {
 
 impl Place {
     // Writes bytes there, and returns how many.
-    fn write<P: Files<File = File> + Clock + AllocGlobal>(
+    fn write<P: Files<File = File> + RandomSource + AllocGlobal>(
         &mut self,
         rt: &P,
         buf: &[u8],
@@ -81,7 +81,7 @@ impl Place {
     }
 }
 
-impl<P: Files<File = File> + Clock + AllocGlobal + Copy> Write for SystemDraft<P> {
+impl<P: Files<File = File> + RandomSource + AllocGlobal + Copy> Write for SystemDraft<P> {
     fn write(&mut self, buf: &[u8]) -> io::Result<usize> {
         match self.place.write(&self.rt, buf) {
             Ok(count) => {
