@@ -42,13 +42,13 @@ pub trait FileSystem {
     ///
     /// # Errors
     ///
-    /// What the system reports. The file stays as it is, unless its draft was written in place (see `System`).
+    /// What the system reports. The file stays as it is, unless it is not a regular one (see `System`).
     fn publish(&mut self, name: &str, draft: Self::Draft) -> io::Result<()>
         ensures published { OnOk result (Publishes name.now (Self.Draft.contents draft) (bytes_of self.old) (bytes_of self.new)) }
         ensures kept { OnErr result (Keeps (bytes_of self.old) (bytes_of self.new)) };
 
-    /// Drops a draft. The file that it was begun for stays as it is, unless the draft was written in place. Returns the
-    /// system's error of the last write into the draft that failed, if there is one and it is known.
+    /// Drops a draft. The file that it was begun for stays as it is, unless it is not a regular one. Returns the system's
+    /// error of the last write into the draft that failed, if there is one and it is known.
     fn abandon(&mut self, draft: Self::Draft) -> Option<io::Error>
         ensures { Keeps (bytes_of self.old) (bytes_of self.new) };
 }

@@ -5,16 +5,16 @@ ghost use Rattle.std.specs.Prelude.{None};
 use crate::draft_file::DraftFile;
 use crate::file_system::FileSystem;
 use crate::system_draft::{Place, SystemDraft};
-use std::fs::{File, Metadata, OpenOptions};
+use std::fs::{File, OpenOptions};
 use std::io::{ErrorKind, Read};
+use std::os::unix::fs::FileTypeExt;
 use std::random::RandomSource;
 use std::rt::Files;
 use std::{fs, io};
 
 /// The files of the system, as a runtime opens them. They have no ghost contents.
 ///
-/// A draft is a file beside its target. Where none can be made there, or the target is new or not a regular file, it is
-/// written into the target itself.
+/// A draft is a file beside its target, unless that is not a regular file: then it is written into the target itself.
 #[derive(Clone, Copy)]
 pub struct System<P: Files<File = File> + RandomSource + AllocGlobal + Copy>(pub P);
 
@@ -28,49 +28,34 @@ impl Read for SystemFile {
     }
 }
 
-// Whether a file cannot be made in a folder, although there may be room for it.
-fn is_forbidden(kind: ErrorKind) -> bool {
-    matches!(
-        kind,
-        ErrorKind::PermissionDenied | ErrorKind::ReadOnlyFilesystem | ErrorKind::InvalidFilename
-    )
-}
-
 impl<P: Files<File = File> + RandomSource + AllocGlobal + Copy> System<P> {
-    // A draft that is written into the file itself.
-    fn begin_itself(&self, name: &str) -> io::Result<SystemDraft<P>> {
+    // A draft that is written into the file itself, which is not a regular one.
+    fn begin_itself(&self, name: &str, is_fifo: bool) -> io::Result<SystemDraft<P>> {
+        // A FIFO that nobody reads would not be opened to be written. One that is open to be read and written is: without
+        // another reader, a write then fails.
+        let held = if is_fifo {
+            Some(OpenOptions::new().read(true).write(true).open(&self.0, name)?)
+        } else {
+            None
+        };
         // If a standard stream is closed, the new file gets its descriptor, and what is printed would go into the file. A
         // clone never has the descriptor of a standard stream.
         let file = fs::create(&self.0, name)?;
         let place = Place::Itself(file.try_clone()?);
+        drop(held);
         Ok(SystemDraft::new(self.0, place))
     }
 
-    // A draft that is written over what a file has, which stays until then.
-    fn begin_over(&self, name: &str) -> io::Result<SystemDraft<P>> {
-        let file = OpenOptions::new().write(true).open(&self.0, name)?;
-        let place = Place::Over(file.try_clone()?);
-        Ok(SystemDraft::new(self.0, place))
-    }
-
-    // A draft that is written beside a regular file, with its permissions. What a link leads to is replaced, not the link.
-    // The file beside it is made and removed at once, to see whether that can be done: so none is left if the process ends
-    // before the draft is written.
-    fn begin_beside(&self, name: &str, metadata: Metadata) -> io::Result<SystemDraft<P>> {
+    // A draft that is written beside a regular file, which is made if there is none and `is_new`. The file has to be one
+    // that may be written. What a link leads to is replaced, not the link. The draft is made and removed at once, to see
+    // whether that can be done: so none is left if the process ends before the draft is written.
+    fn begin_beside(&self, name: &str, is_new: bool) -> io::Result<SystemDraft<P>> {
+        let file = OpenOptions::new().write(true).create(is_new).open(&self.0, name)?;
         let target = fs::canonicalize(&self.0, name)?;
-        let mut beside = DraftFile::new(target, metadata);
-        match beside.make(&self.0) {
-            Ok(()) => {
-                beside.remove(&self.0);
-                Ok(SystemDraft::new(self.0, Place::Beside(beside)))
-            }
-            Err(e) => {
-                if is_forbidden(e.kind()) {
-                    return self.begin_over(name);
-                }
-                Err(e)
-            }
-        }
+        let mut beside = DraftFile::new(target, file.metadata()?);
+        beside.make(&self.0)?;
+        beside.remove(&self.0);
+        Ok(SystemDraft::new(self.0, Place::Beside(beside)))
     }
 }
 
@@ -96,14 +81,14 @@ impl<P: Files<File = File> + RandomSource + AllocGlobal + Copy> FileSystem for S
         match fs::metadata(&self.0, name) {
             Ok(metadata) => {
                 if metadata.is_file() {
-                    self.begin_beside(name, metadata)
+                    self.begin_beside(name, false)
                 } else {
-                    self.begin_itself(name)
+                    self.begin_itself(name, metadata.file_type().is_fifo())
                 }
             }
             Err(e) => {
                 if e.kind() == ErrorKind::NotFound {
-                    self.begin_itself(name)
+                    self.begin_beside(name, true)
                 } else {
                     Err(e)
                 }

@@ -12,10 +12,8 @@ use std::rt::Files;
 // Where a draft is written.
 #[derive(Drop)]
 pub(crate) enum Place {
-    /// Into the file itself, which is new or is not a regular file.
+    /// Into the file itself, which is not a regular one.
     Itself(File),
-    /// Over what the file has, since none can be made beside it.
-    Over(File),
     /// Into a file beside it.
     Beside(DraftFile),
 }
@@ -25,8 +23,6 @@ pub(crate) enum Place {
 pub struct SystemDraft<P: Files<File = File> + RandomSource + AllocGlobal + Copy> {
     rt: P,
     place: Place,
-    // How many bytes were written.
-    len: u64,
     // What the system said of the write that failed last, if one has.
     error: Option<io::Error>,
 }
@@ -37,7 +33,6 @@ impl<P: Files<File = File> + RandomSource + AllocGlobal + Copy> SystemDraft<P> {
         SystemDraft {
             rt,
             place,
-            len: 0,
             error: None,
         }
     }
@@ -58,7 +53,6 @@ impl<P: Files<File = File> + RandomSource + AllocGlobal + Copy> SystemDraft<P> {
     pub(crate) fn replace(&mut self) -> io::Result<()> {
         match &mut self.place {
             Place::Itself(_) => Ok(()),
-            Place::Over(file) => file.set_len(self.len),
             Place::Beside(beside) => beside.replace(&self.rt),
         }
     }
@@ -75,7 +69,6 @@ impl Place {
     {
         match self {
             Place::Itself(file) => file.write(buf),
-            Place::Over(file) => file.write(buf),
             Place::Beside(beside) => beside.write(rt, buf),
         }
     }
@@ -84,10 +77,7 @@ impl Place {
 impl<P: Files<File = File> + RandomSource + AllocGlobal + Copy> Write for SystemDraft<P> {
     fn write(&mut self, buf: &[u8]) -> io::Result<usize> {
         match self.place.write(&self.rt, buf) {
-            Ok(count) => {
-                self.len = self.len.saturating_add(count as u64);
-                Ok(count)
-            }
+            Ok(count) => Ok(count),
             Err(error) => {
                 self.error = Some(error);
                 Err(error)
