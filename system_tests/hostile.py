@@ -5,6 +5,7 @@ Each row is a function. It prints what it measured; the last line counts the che
 """
 import os
 import resource
+import select
 import shutil
 import signal
 import socket
@@ -18,6 +19,7 @@ from attacking import (
     FOLDER, Flood, HEADER, RRQ, Server, WRQ, check, counts, done, drain, end, file, loaded, memory_of, processes,
     record, request, run, sent_but_for_the_last, sockets_of, stop,
 )
+from saying import a_server_that_stops_answering, what_a_server_says
 
 
 # ---- the rows
@@ -27,6 +29,8 @@ def what_waits_is_not_timed_out():
     with Server() as server:
         ends = [end() for _ in range(12)]
         ports = [server.begin(own, WRQ)[1] for own in ends]
+        # By then the server waits for what comes next.
+        time.sleep(0.3)
         stop(server.process)
         for own in ends:
             drain(own)
@@ -41,7 +45,7 @@ def what_waits_is_not_timed_out():
 
 
 def junk_costs_no_port():
-    """After 20,000 junk datagrams at the request port the next transfer has another port, and requests are served."""
+    """20,000 junk datagrams at the request port open no port. A port that a transfer had is not the next one's."""
     with Server() as server:
         own = end()
         first = server.begin(own, WRQ)[1]
@@ -49,8 +53,10 @@ def junk_costs_no_port():
             while flood.sent < 20_000:
                 time.sleep(0.01)
         opened = len(sockets_of(server.process.pid))
-        other = end()
-        second = server.begin(other, WRQ)[1]
+        own.sendto(b"\0\5\0\0\0", ("127.0.0.1", first))
+        while len(sockets_of(server.process.pid)) > 1:
+            time.sleep(0.01)
+        second = server.begin(end(), WRQ)[1]
         print(f"20,000 junk datagrams at the request port: ports {first} and {second}, {opened} ports open")
         check("junk opens no port", opened == 2)
         check("a port that was just used", first != second)
@@ -98,6 +104,26 @@ def strangers_keep_no_transfer_alive():
         check("a transfer that a stranger answers", 0 < lived < 7)
 
 
+def other_hosts_get_no_answer():
+    """At a transfer's port another host gets no answer, and the transfer goes on. Another port of the peer's host gets one."""
+    with Server() as server:
+        own, stranger, neighbour = end(), end("127.0.0.2", 1), end()
+        port = server.begin(own, WRQ)[1]
+        # More of them than one read drops.
+        for _ in range(100):
+            stranger.sendto(b"\0\3\0\1" + HEADER, ("127.0.0.1", port))
+        neighbour.sendto(b"\0\3\0\1" + HEADER, ("127.0.0.1", port))
+        check("another port of the peer's host", neighbour.recv(2000) == b"\0\5\0\5unknown transfer\0")
+        own.sendto(b"\0\3\0\1" + HEADER + record(1), ("127.0.0.1", port))
+        check("the peer's block after a hundred of another host", own.recv(2000) == b"\0\4\0\1")
+        try:
+            answer = stranger.recv(2000)
+        except TimeoutError:
+            answer = None
+        print(f"100 datagrams of another host at a transfer's port: {'no answer' if answer is None else answer}")
+        check("another host", answer is None)
+
+
 def junk_is_no_progress(host):
     """A get that nobody answers times out, whatever junk comes from this host."""
     silent = end()
@@ -112,6 +138,7 @@ def junk_is_no_progress(host):
 def five_time_outs_end_a_transfer():
     """The rows that wait for five time-outs, side by side: junk is from the server's host of a get, and from another."""
     rows = [strangers_keep_no_transfer_alive, *(partial(junk_is_no_progress, host) for host in ("127.0.0.1", "127.0.0.2"))]
+    rows.append(a_server_that_stops_answering)
     with ThreadPoolExecutor() as pool:
         for row in [pool.submit(row) for row in rows]:
             row.result()
@@ -202,11 +229,13 @@ def gets_write_before_they_dally():
     began = time.monotonic()
     text = HEADER + record(1)
     server.settimeout(0.1)
-    written = None
+    written = said = None
     while process.poll() is None and time.monotonic() - began < 20:
         server.sendto(b"\0\3\0\1" + text, client)
         if written is None and os.path.exists(got) and os.path.getsize(got) == len(text):
             written = time.monotonic() - began
+        if said is None and select.select([process.stdout], [], [], 0)[0]:
+            said = time.monotonic() - began
         try:
             server.recvfrom(2000)
         except OSError:
@@ -215,6 +244,7 @@ def gets_write_before_they_dally():
     ended = time.monotonic() - began
     print(f"a last block every 0.1 s for ever: written after {written or 99:.1f} s, ended after {ended:.1f} s")
     check("the file is written at once", written is not None and written < 0.5)
+    check("its line is printed at once", said is not None and said < 0.5)
     check("the get ends", ended < 3 and process.wait() == 0)
     with Server() as honest:
         status, _, took = honest.get()
@@ -278,6 +308,9 @@ def ports_are_drawn():
         print(f"the ports of twenty transfers: {min(ports)} to {max(ports)}")
         check("ports for private use", all(port >= 49152 for port in ports) and len(set(ports)) == 20)
         check("ports in no order", ports != sorted(ports))
+    with Server() as server:
+        again = [server.begin(end(), WRQ)[1] for _ in range(20)]
+        check("another order at the next start", again != ports)
 
 
 def drafts_that_are_no_files():
@@ -397,6 +430,8 @@ def main():
         what_waits_is_not_timed_out,
         junk_costs_no_port,
         one_host_does_not_close_the_archive,
+        other_hosts_get_no_answer,
+        what_a_server_says,
         five_time_outs_end_a_transfer,
         floods_slow_gets_down_no_more_than_threefold,
         uploads_cost_their_bytes,
