@@ -6,14 +6,9 @@ use Rattle.std.proofs.lemmas.List.{get_or_append_left}
 use Rattle.std.proofs.lemmas.List.Edits.{Swapped, swapped_from_swap, length-swap}
 use Rattle.archive_host.specs.declared.port_deck.TheConstants.{LEN, DRAWN}
 use Rattle.archive_host.specs.Drawing.{Draws}
-use Rattle.archive_host.specs.Dealing.{AreDistinct, IsDeck, Deals}
+use Rattle.archive_host.specs.Dealing.{AreFrom, AreDistinct, IsDeck, Deals}
 
 -- ---- the first deck
-
--- the ports from the first one on, in order
-pub record AreFrom (cards : List ℕ) (count : ℕ) : Type 0 where
-  pub size : length cards ≡ count
-  pub each : (k : ℕ) → k < count → slice_index cards k ≡ 49152 + k
 
 pub AreFrom-none : AreFrom [] 0
 AreFrom-none = record { size = refl; each = λ k below. absurd (omega arith) }

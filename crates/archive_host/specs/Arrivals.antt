@@ -1,5 +1,5 @@
 -- Which port is read next, and which are open.
-use Rattle.std.specs.Prelude.{ℕ, nat_lt, Bool, true, false, ◌&&◌, ◌||◌, ◌≡◌, ◌≢◌, List, [], ◌∷◌, All, fold, slice_get, Option, None, Some}
+use Rattle.std.specs.Prelude.{ℕ, nat_lt, Bool, true, false, not, ◌&&◌, ◌||◌, ◌==◌, ◌≡◌, ◌≢◌, List, [], ◌∷◌, All, find, fold, slice_get, Option, None, Some}
 use Rattle.std.specs.List.{remove}
 use Rattle.archive_wire.specs.Wire.{lesser}
 use Rattle.archive_host.specs.declared.open_port.OpenPort.{OpenPort}
@@ -45,6 +45,26 @@ ready_above after ports =
 -- whether one of the ports may have a datagram that was not read
 abbrev pub one_may_have_more : List OpenPort → Bool
 one_may_have_more ports = fold (λ found o. may_have_more o.unread || found) false ports
+
+-- whether datagrams of a host are handed out at a port that keeps to this one, if it keeps to one
+abbrev pub takes_from : (only : Option ℕ) → (host : ℕ) → Bool
+takes_from None host = true
+takes_from (Some only) host = only == host
+
+-- All that arrived was handed out before a wait gave a port only if none was ready then: the time of the poll before it.
+-- If none is ready now, it is the time of the last poll.
+abbrev pub settled_at : (ready : Option ℕ) (given : Option ℕ) (before after : Option ℕ) → Option ℕ
+settled_at ready None before after = after
+settled_at None (Some port) before after = before
+settled_at (Some least) (Some port) before after = None
+
+-- whether a port is open, and no datagram was sent from there or received
+abbrev pub is_unused_in : Option OpenPort → Bool
+is_unused_in None = false
+is_unused_in (Some o) = not o.used
+
+abbrev pub is_unused : (port : ℕ) → List OpenPort → Bool
+is_unused port ports = is_unused_in (find (λ o. o.port == port) ports)
 
 -- the port with this number is no longer open, or there was none
 abbrev pub Closes : (port : ℕ) (was_open : Bool) (old new : List OpenPort) → Type 0

@@ -1,7 +1,12 @@
 -- What a deck of ports deals, one draw after another.
-use Rattle.std.specs.Prelude.{◌≡◌, ℕ, ◌<◌, List, [], ◌∷◌, length, slice_index}
+use Rattle.std.specs.Prelude.{◌≡◌, ℕ, ◌+◌, ◌<◌, List, [], ◌∷◌, length, slice_index}
 use Rattle.archive_host.specs.declared.port_deck.TheConstants.{LEN}
 use Rattle.archive_host.specs.Drawing.{Draws}
+
+-- the ports for private use from the least one on, in order
+pub record AreFrom (cards : List ℕ) (count : ℕ) : Type 0 where
+  pub size : length cards ≡ count
+  pub each : (k : ℕ) → k < count → slice_index cards k ≡ 49152 + k
 
 -- no port is there twice
 abbrev pub AreDistinct : List ℕ → Type 0

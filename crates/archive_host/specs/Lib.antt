@@ -1,3 +1,4 @@
 pub mod Arrivals
 pub mod Drawing
 pub mod Dealing
+pub mod Returning

@@ -3,7 +3,7 @@
 ghost use Rattle.std.specs.Prelude.{◌≡◌, ◌≤◌, true, Some, IfOk, OnErr, IfSome, IfNone};
 ghost use Rattle.std.specs.Option.{option_or};
 ghost use Rattle.archive_host.specs.declared.unread.Unread.TheVariants.{Nothing, Perhaps, Reported};
-ghost use Rattle.archive_host.specs.Arrivals.{is_reported, may_have_more, marked_read};
+ghost use Rattle.archive_host.specs.Arrivals.{is_reported, may_have_more, marked_read, takes_from};
 
 use crate::unread::Unread;
 use archive_wire::RECEIVE_SIZE;
@@ -100,6 +100,7 @@ impl OpenPort {
     fn read_one(&mut self, buffer: &mut [u8; RECEIVE_SIZE]) -> io::Result<Option<(usize, Endpoint)>>
         ensures count { IfOk result (λ got. IfSome got (λ g. g.0 ≤ RECEIVE_SIZE)) }
         ensures port { self.new.port ≡ self.old.port }
+        ensures host { self.new.host ≡ self.old.host }
         ensures came { IfOk result (λ got. IfSome got (λ _. self.new.unread ≡ Perhaps)) }
         ensures nothing { IfOk result (λ got. IfNone got (self.new.unread ≡ Nothing)) }
         ensures failed { OnErr result (self.new.unread ≡ self.old.unread) }
@@ -137,6 +138,8 @@ impl OpenPort {
     ) -> io::Result<Option<(usize, Endpoint)>>
         ensures count { IfOk result (λ got. IfSome got (λ g. g.0 ≤ RECEIVE_SIZE)) }
         ensures port { self.new.port ≡ self.old.port }
+        ensures host { self.new.host ≡ self.old.host }
+        ensures taken { IfOk result (λ got. IfSome got (λ g. takes_from self.old.host g.1.host ≡ true)) }
     {
         for _other in 0..OTHERS {
             match self.read_one(buffer)? {
@@ -167,7 +170,9 @@ impl OpenPort {
     }
 
     // Whether datagrams from a host are handed out.
-    fn takes_from(&self, host: u32) -> bool {
+    fn takes_from(&self, host: u32) -> bool
+        ensures { result ≡ takes_from self.now.host host }
+    {
         match self.host {
             Some(only) => only == host,
             None => true,

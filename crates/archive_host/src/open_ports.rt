@@ -1,8 +1,8 @@
 //! The open ports, and whose turn it is among those with unread datagrams.
 
-ghost use Rattle.std.specs.Prelude.{◌≡◌, ◌≢◌, ◌<◌, ◌++◌, ◌∷◌, [], length, map, All, IfSome, IfNone, OnOk, OnErr, slice_get, Some};
+ghost use Rattle.std.specs.Prelude.{◌≡◌, ◌≢◌, ◌==◌, ◌<◌, ◌++◌, ◌∷◌, [], length, map, find, option_copied, All, IfSome, IfNone, OnOk, OnErr, slice_get, Some};
 ghost use Rattle.archive_wire.specs.Wire.{lesser};
-ghost use Rattle.archive_host.specs.Arrivals.{first_port, ready_least, ready_above, one_may_have_more, marked_read, Closes};
+ghost use Rattle.archive_host.specs.Arrivals.{first_port, is_unused, ready_least, ready_above, one_may_have_more, marked_read, Closes};
 
 use crate::open_port::OpenPort;
 use std::alloc::{AllocError, Global};
@@ -21,6 +21,13 @@ fn lesser(least: Option<u16>, port: u16) -> Option<u16>
         None => Some(port),
         Some(least) => Some(least.min(port)),
     }
+}
+
+// The first of these ports with this number.
+fn find_in(ports: &[OpenPort], port: u16) -> Option<&OpenPort>
+    ensures { option_copied result ≡ find (λ o. o.port == port) ports.now }
+{
+    ports.iter().find(|open| open.port() == port)
 }
 
 // Marks the ports that were read as ready again.
@@ -72,12 +79,14 @@ impl OpenPorts {
         }
     }
 
-    /// The open port with this number.
-    pub(crate) fn get(&self, port: u16) -> Option<&OpenPort>
-        ensures { IfSome result (λ o. o.now.port ≡ port) }
+    /// Whether a port is open, and no datagram was sent from there or received.
+    pub(crate) fn is_unused(&self, port: u16) -> bool
+        ensures { result ≡ is_unused port self.now.ports.items }
     {
-        let i = self.index_of(port)?;
-        Some(&self.ports[i])
+        match find_in(&self.ports, port) {
+            Some(open) => !open.is_used(),
+            None => false,
+        }
     }
 
     /// The open port with this number, to be changed.

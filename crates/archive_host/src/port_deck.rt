@@ -1,7 +1,7 @@
 //! The order in which ports for transfers are taken.
 
 ghost use Rattle.std.specs.Prelude.{◌≡◌, ◌<◌, ◌+◌, ◌%◌, vec_len, IfOk, Some, None};
-ghost use Rattle.archive_host.specs.Dealing.{AreDistinct};
+ghost use Rattle.archive_host.specs.Dealing.{AreDistinct, AreFrom};
 ghost use Rattle.archive_host.specs.Drawing.{Draws};
 ghost use Rattle.archive_host.specs.declared.port_deck.TheConstants.{LEN};
 
@@ -33,6 +33,7 @@ pub(crate) const DRAWN: u32 = 8_192;
 
 fn all_ports(alloc: Global) -> Result<Vec<u16>, AllocError>
     ensures whole { IfOk result (λ ports. vec_len ports ≡ LEN) }
+    ensures private { IfOk result (λ ports. AreFrom ports.items LEN) }
     ensures distinct { IfOk result (λ ports. AreDistinct ports.items) }
 {
     let mut ports = Vec::new(alloc);

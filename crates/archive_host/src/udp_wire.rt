@@ -1,7 +1,9 @@
 //! A wire over UDP sockets.
 
 ghost use Rattle.std.specs.Prelude.{◌≡◌, ◌==◌, ◌≤◌, ◌<◌, ◌+◌, ◌-◌, ◌^◌, true, false, Some, None, is_ok, IfOk, IfSome, IfErr, OnErr, if◌then◌else◌};
-ghost use Rattle.archive_host.specs.Arrivals.{one_may_have_more, Closes};
+ghost use Rattle.archive_host.specs.Arrivals.{one_may_have_more, ready_above, ready_least, settled_at, Closes};
+ghost use Rattle.std.specs.Option.{option_or};
+ghost use Rattle.archive_host.specs.Returning.{given_back};
 ghost use Rattle.byte_output.specs.Failures.{Rises};
 ghost use Rattle.archive_host.specs.declared.udp_wire.TheConstants.{REREAD_EVERY};
 
@@ -137,6 +139,7 @@ impl<R: Net + Clock + RandomSource + AllocGlobal + Copy> UdpWire<R> {
     fn count_failure(&mut self)
         ensures failed { Rises self.old.failures self.new.failures }
         ensures ports { self.new.ports ≡ self.old.ports }
+        ensures deck { self.new.deck ≡ self.old.deck }
         ensures given { self.new.given ≡ self.old.given }
     {
         if self.failures < u64::MAX {
@@ -200,13 +203,10 @@ impl<R: Net + Clock + RandomSource + AllocGlobal + Copy> UdpWire<R> {
     fn give_back(&mut self, port: u16)
         ensures failures { self.new.failures ≡ self.old.failures }
         ensures ports { self.new.ports ≡ self.old.ports }
+        ensures deck { self.new.deck ≡ given_back port self.old.ports.ports.items self.old.deck }
     {
-        let unused = match self.ports.get(port) {
-            Some(open) => !open.is_used(),
-            None => false,
-        };
         if let Some(deck) = &mut self.deck {
-            if unused {
+            if self.ports.is_unused(port) {
                 deck.give_back(port);
             }
         }
@@ -304,6 +304,7 @@ impl<R: Net + Clock + RandomSource + AllocGlobal + Copy> UdpWire<R> {
     // polled once no port above `after` is ready, however busy the ports are.
     fn next_ready(&mut self, after: u16, until: Option<u64>) -> (Option<u16>, Option<u64>)
         ensures failures { self.new.failures ≡ self.old.failures }
+        ensures settled { result.1 ≡ settled_at (option_or (ready_above after self.old.ports.ports.items) (ready_least self.old.ports.ports.items)) result.0 self.old.polled self.new.polled }
     {
         if let Some(port) = self.ports.ready_above(after) {
             return (Some(port), None);
@@ -337,6 +338,8 @@ impl<R: Net + Clock + RandomSource + AllocGlobal + Copy> Wire for UdpWire<R> {
     }
 
     fn close(&mut self, port: u16) -> Result<(), WireFault>
+        // A port that was not used is the next one again.
+        ensures deck { self.new.deck ≡ given_back port self.old.ports.ports.items self.old.deck }
         // It fails only if the port was not open.
         ensures closes { Closes port (is_ok result) self.old.ports.ports.items self.new.ports.ports.items }
         ensures fault { IfErr result (λ e. e ≡ WireFault.Close) }

@@ -125,6 +125,7 @@ impl<F: Folder> FolderKeeper<F> {
     fn note(&mut self, fault: PublishFault) -> KeepFault
         ensures folder { self.new.folder ≡ self.old.folder }
         ensures known { self.new.is_usable ≡ true → (failed : CallFailed) × (fault ≡ PublishFault.NotKept failed) }
+        ensures goes_on { (failed : CallFailed) → fault ≡ PublishFault.NotKept failed → self.new.is_usable ≡ self.old.is_usable }
         ensures usable { self.new.is_usable ≡ true → self.old.is_usable ≡ true }
         ensures more { self.old.failures ≤ self.new.failures }
         ensures device { result ≡ KeepFault.Device → Rises self.old.failures self.new.failures }

@@ -1,4 +1,4 @@
-use Rattle.archive_host.proofs.Dealing.{AreFrom}
+use Rattle.archive_host.specs.Dealing.{AreFrom}
 use Rattle.archive_host.proofs.port_deck.all_ports.Given as goal
 
 abbrev pub invariant-loop-i : goal.invariant-loop-i
