@@ -89,7 +89,7 @@ function countsShown(line) {
   const count = (name) => (line.match(new RegExp(`(?:${name}) (\\d+)`)) || [0, "0"])[1];
   const levels = count("levels") === "1" ? "1 level" : `${count("levels")} levels`;
   return `${levels}: ${count("only mine")} only mine, ${count("mine better")} mine better, ` +
-    `${count("equal|tie")} tied, ${count("theirs better")} theirs better, ${count("only theirs")} only theirs`;
+    `${Number(count("equal")) + Number(count("tie"))} tied, ${count("theirs better")} theirs better, ${count("only theirs")} only theirs`;
 }
 
 /** The fields of a line of comma-separated values, in which quotes may stand around a field. @param {string} line */

@@ -39,15 +39,15 @@ same("solutions", tables.solutionsIn(csv), [
 same("no solutions", tables.solutionsIn("level,password,ticks\n"), []);
 
 const comparison = tables.comparisonIn("level 1 BDHP mine better by 537 ticks\nlevel 2 JXMJ only mine\nlevel 3 x00000000 equal\n" +
-  "level 4 ABCD theirs better at the same ticks\nlevel 9 KCRE only theirs\n" +
-  "levels 5 only mine 1 only theirs 1 mine better 1 theirs better 1 equal 1\n");
+  "level 4 ABCD tie, theirs is kept\nlevel 9 KCRE only theirs\n" +
+  "levels 5 only mine 1 only theirs 1 mine better 1 theirs better 0 equal 1 tie 1\n");
 same("standings", comparison.rows.map((row) => [row.level, row.words, row.side, row.ticks]), [
   [1, "mine better by 26.85 s", "mine", 537], [2, "only mine", "mine", 0], [3, "tie", "tie", 0],
-  [4, "theirs better at the same ticks", "theirs", 0], [9, "only theirs", "theirs", 0],
+  [4, "tie, theirs is kept", "tie", 0], [9, "only theirs", "theirs", 0],
 ]);
 same("counts", tables.countsShown(comparison.counts),
-  "5 levels: 1 only mine, 1 mine better, 1 tied, 1 theirs better, 1 only theirs");
-const nothing = "levels 0 only mine 0 only theirs 0 mine better 0 theirs better 0 equal 0\n";
+  "5 levels: 1 only mine, 1 mine better, 2 tied, 0 theirs better, 1 only theirs");
+const nothing = "levels 0 only mine 0 only theirs 0 mine better 0 theirs better 0 equal 0 tie 0\n";
 same("a comparison of nothing", tables.comparisonIn(nothing).rows, []);
 
 same("fields", ['1,ABCD,"A, ""B""",200', "1,ABCD", "1,,", "", ' 1 , "A" '].map(tables.fieldsOf),

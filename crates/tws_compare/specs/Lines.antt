@@ -8,15 +8,19 @@ use Rattle.tws_compare.specs.declared.standing.Standing.{Standing}
 use Rattle.tws_compare.specs.declared.standing.Standing.TheVariants.{OnlyMine, OnlyTheirs, MineBetter, TheirsBetter, Equal}
 use Rattle.tws_compare.specs.Counts.{counts_of}
 
--- by how many ticks one is better
-abbrev pub margin_text : ℕ → List ℕ
-margin_text ticks = if ticks == 0 then codes "at the same ticks" else codes "by " ++ decimal ticks ++ codes " ticks"
+-- mine is better by so many ticks, or by the rest of the rank alone
+abbrev pub mine_text : ℕ → List ℕ
+mine_text ticks = if ticks == 0 then codes "tie, mine is kept" else codes "mine better by " ++ decimal ticks ++ codes " ticks"
+
+-- the same of theirs
+abbrev pub theirs_text : ℕ → List ℕ
+theirs_text ticks = if ticks == 0 then codes "tie, theirs is kept" else codes "theirs better by " ++ decimal ticks ++ codes " ticks"
 
 abbrev pub standing_text : Standing → List ℕ
 standing_text OnlyMine = codes "only mine"
 standing_text OnlyTheirs = codes "only theirs"
-standing_text (MineBetter ticks) = codes "mine better " ++ margin_text ticks
-standing_text (TheirsBetter ticks) = codes "theirs better " ++ margin_text ticks
+standing_text (MineBetter ticks) = mine_text ticks
+standing_text (TheirsBetter ticks) = theirs_text ticks
 standing_text Equal = codes "equal"
 
 abbrev pub row_text : Row → List ℕ
@@ -30,7 +34,7 @@ abbrev pub only_words : Counts → List ℕ
 only_words counts = codes "levels " ++ (decimal counts.levels ++ (codes " only mine " ++ (decimal counts.only_mine ++ (codes " only theirs " ++ decimal counts.only_theirs))))
 
 abbrev pub better_line : Counts → List ℕ
-better_line counts = codes " mine better " ++ (decimal counts.mine_better ++ (codes " theirs better " ++ (decimal counts.theirs_better ++ (codes " equal " ++ line (decimal counts.equal)))))
+better_line counts = codes " mine better " ++ (decimal counts.mine_better ++ (codes " theirs better " ++ (decimal counts.theirs_better ++ (codes " equal " ++ (decimal counts.equal ++ (codes " tie " ++ line (decimal counts.tied)))))))
 
 abbrev pub counts_line : Counts → List ℕ
 counts_line counts = only_words counts ++ better_line counts

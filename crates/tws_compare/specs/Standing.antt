@@ -1,5 +1,5 @@
 -- How the best solutions of two files, mine and theirs, compare at one level.
-use Rattle.std.specs.Prelude.{ℕ, ◌-◌, Bool, true, false, ◌||◌, List, [], ◌∷◌, Option, None, Some, if◌then◌else◌}
+use Rattle.std.specs.Prelude.{ℕ, ◌-◌, ◌==◌, not, Bool, true, false, ◌||◌, List, [], ◌∷◌, Option, None, Some, if◌then◌else◌}
 use Rattle.std.specs.declared.cmp.Ordering.{Ordering}
 use Rattle.std.specs.declared.cmp.Ordering.TheVariants as order
 use Rattle.std.specs.Ordering.{is_eq}
@@ -50,9 +50,21 @@ abbrev pub is_mine_better : Standing → Bool
 is_mine_better (MineBetter ticks) = true
 is_mine_better standing = false
 
-abbrev pub is_theirs_better : Standing → Bool
-is_theirs_better (TheirsBetter ticks) = true
-is_theirs_better standing = false
+-- mine has fewer ticks
+abbrev pub is_mine_faster : Standing → Bool
+is_mine_faster (MineBetter ticks) = not (ticks == 0)
+is_mine_faster standing = false
+
+-- theirs has fewer ticks
+abbrev pub is_theirs_faster : Standing → Bool
+is_theirs_faster (TheirsBetter ticks) = not (ticks == 0)
+is_theirs_faster standing = false
+
+-- both have the same ticks, and the rest of the rank decides which is kept
+abbrev pub is_tie : Standing → Bool
+is_tie (MineBetter ticks) = ticks == 0
+is_tie (TheirsBetter ticks) = ticks == 0
+is_tie standing = false
 
 abbrev pub is_equal : Standing → Bool
 is_equal Equal = true

@@ -2,7 +2,7 @@
 
 ghost use Rattle.std.specs.Prelude.{◌≡◌, count_by};
 ghost use Rattle.tws_compare.specs.Counts.{counts_of};
-ghost use Rattle.tws_compare.specs.Standing.{is_only_mine, is_only_theirs, is_mine_better, is_theirs_better, is_equal};
+ghost use Rattle.tws_compare.specs.Standing.{is_only_mine, is_only_theirs, is_mine_faster, is_theirs_faster, is_equal, is_tie};
 
 use crate::row::Row;
 
@@ -15,12 +15,14 @@ pub struct Counts {
     pub only_mine: usize,
     /// Those that only their file has solved.
     pub only_theirs: usize,
-    /// Those where both have a solution and mine is better.
+    /// Those where both have a solution and mine has fewer ticks.
     pub mine_better: usize,
-    /// Those where both have a solution and theirs is better.
+    /// Those where both have a solution and theirs has fewer ticks.
     pub theirs_better: usize,
     /// Those where both have the same solution.
     pub equal: usize,
+    /// Those where both have other solutions with the same ticks.
+    pub tied: usize,
 }
 
 fn only_mine(rows: &[Row]) -> usize
@@ -40,18 +42,18 @@ fn only_theirs(rows: &[Row]) -> usize
 }
 
 fn mine_better(rows: &[Row]) -> usize
-    ensures { result ≡ count_by (λ row. is_mine_better row.standing) rows.now }
+    ensures { result ≡ count_by (λ row. is_mine_faster row.standing) rows.now }
 {
     rows.iter()
-        .filter(|row| row.standing.is_mine_better())
+        .filter(|row| row.standing.is_mine_faster())
         .count()
 }
 
 fn theirs_better(rows: &[Row]) -> usize
-    ensures { result ≡ count_by (λ row. is_theirs_better row.standing) rows.now }
+    ensures { result ≡ count_by (λ row. is_theirs_faster row.standing) rows.now }
 {
     rows.iter()
-        .filter(|row| row.standing.is_theirs_better())
+        .filter(|row| row.standing.is_theirs_faster())
         .count()
 }
 
@@ -59,6 +61,12 @@ fn equal(rows: &[Row]) -> usize
     ensures { result ≡ count_by (λ row. is_equal row.standing) rows.now }
 {
     rows.iter().filter(|row| row.standing.is_equal()).count()
+}
+
+fn tied(rows: &[Row]) -> usize
+    ensures { result ≡ count_by (λ row. is_tie row.standing) rows.now }
+{
+    rows.iter().filter(|row| row.standing.is_tie()).count()
 }
 
 impl Counts {
@@ -73,6 +81,7 @@ impl Counts {
             mine_better: mine_better(rows),
             theirs_better: theirs_better(rows),
             equal: equal(rows),
+            tied: tied(rows),
         }
     }
 }

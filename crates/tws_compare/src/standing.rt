@@ -11,12 +11,12 @@ pub enum Standing {
     OnlyTheirs,
     /// Mine is better.
     MineBetter {
-        /// By this many ticks; 0 if only the rest of the rank decides.
+        /// By this many ticks; 0 for a tie, in which the rest of the rank decides.
         ticks: u32,
     },
     /// Theirs is better.
     TheirsBetter {
-        /// By this many ticks; 0 if only the rest of the rank decides.
+        /// By this many ticks; 0 for a tie, in which the rest of the rank decides.
         ticks: u32,
     },
     /// Both are the same bytes.
@@ -25,7 +25,7 @@ pub enum Standing {
 
 impl Standing {
     ghost use Rattle.std.specs.Prelude.{◌≡◌};
-    ghost use Rattle.tws_compare.specs.Standing.{is_only_mine, is_only_theirs, is_mine_better, is_theirs_better, is_equal, is_improvement};
+    ghost use Rattle.tws_compare.specs.Standing.{is_only_mine, is_only_theirs, is_mine_better, is_mine_faster, is_theirs_faster, is_equal, is_tie, is_improvement};
 
     // Whether only my file has a solution.
     pub(crate) fn is_only_mine(&self) -> bool
@@ -48,11 +48,43 @@ impl Standing {
         matches!(self, Standing::MineBetter { .. })
     }
 
-    // Whether both files have a solution, and theirs is better.
-    pub(crate) fn is_theirs_better(&self) -> bool
-        ensures { result ≡ is_theirs_better self.now }
+    // Whether both files have a solution, and mine has fewer ticks.
+    pub(crate) fn is_mine_faster(&self) -> bool
+        ensures { result ≡ is_mine_faster self.now }
     {
-        matches!(self, Standing::TheirsBetter { .. })
+        match self {
+            Standing::MineBetter { ticks } => *ticks != 0,
+            Standing::OnlyMine => false,
+            Standing::OnlyTheirs => false,
+            Standing::TheirsBetter { .. } => false,
+            Standing::Equal => false,
+        }
+    }
+
+    // Whether both files have a solution, and theirs has fewer ticks.
+    pub(crate) fn is_theirs_faster(&self) -> bool
+        ensures { result ≡ is_theirs_faster self.now }
+    {
+        match self {
+            Standing::TheirsBetter { ticks } => *ticks != 0,
+            Standing::OnlyMine => false,
+            Standing::OnlyTheirs => false,
+            Standing::MineBetter { .. } => false,
+            Standing::Equal => false,
+        }
+    }
+
+    // Whether both files have other solutions with the same ticks.
+    pub(crate) fn is_tie(&self) -> bool
+        ensures { result ≡ is_tie self.now }
+    {
+        match self {
+            Standing::MineBetter { ticks } => *ticks == 0,
+            Standing::TheirsBetter { ticks } => *ticks == 0,
+            Standing::OnlyMine => false,
+            Standing::OnlyTheirs => false,
+            Standing::Equal => false,
+        }
     }
 
     // Whether both files have the same solution.
@@ -81,27 +113,45 @@ impl fmt::Display for Standing {
         match self {
             Standing::OnlyMine => write!(f, "only mine"),
             Standing::OnlyTheirs => write!(f, "only theirs"),
-            Standing::MineBetter { ticks } => write!(f, "mine better {}", Margin(*ticks)),
-            Standing::TheirsBetter { ticks } => write!(f, "theirs better {}", Margin(*ticks)),
+            Standing::MineBetter { ticks } => write!(f, "{}", Mine(*ticks)),
+            Standing::TheirsBetter { ticks } => write!(f, "{}", Theirs(*ticks)),
             Standing::Equal => write!(f, "equal"),
         }
     }
 }
 
-// By how many ticks one is better.
+// By how many ticks mine is better.
 #[derive(Drop)]
-struct Margin(u32);
+struct Mine(u32);
 
-impl fmt::Display for Margin {
+impl fmt::Display for Mine {
     ghost use Rattle.std.specs.Prelude.{Some};
-    ghost use Rattle.tws_compare.specs.Lines.{margin_text};
+    ghost use Rattle.tws_compare.specs.Lines.{mine_text};
 
-    ghost output = { λ margin. Some (margin_text margin.0) };
+    ghost output = { λ mine. Some (mine_text mine.0) };
 
     fn fmt<W: fmt::Write>(&self, f: &mut fmt::Formatter<W>) -> fmt::Result {
         match self.0 {
-            0 => write!(f, "at the same ticks"),
-            ticks => write!(f, "by {ticks} ticks"),
+            0 => write!(f, "tie, mine is kept"),
+            ticks => write!(f, "mine better by {ticks} ticks"),
+        }
+    }
+}
+
+// By how many ticks theirs is better.
+#[derive(Drop)]
+struct Theirs(u32);
+
+impl fmt::Display for Theirs {
+    ghost use Rattle.std.specs.Prelude.{Some};
+    ghost use Rattle.tws_compare.specs.Lines.{theirs_text};
+
+    ghost output = { λ theirs. Some (theirs_text theirs.0) };
+
+    fn fmt<W: fmt::Write>(&self, f: &mut fmt::Formatter<W>) -> fmt::Result {
+        match self.0 {
+            0 => write!(f, "tie, theirs is kept"),
+            ticks => write!(f, "theirs better by {ticks} ticks"),
         }
     }
 }

@@ -40,11 +40,12 @@ fn push_better<A: Allocator>(text: &mut String<A>, counts: Counts) -> Result<(),
         mine_better,
         theirs_better,
         equal,
+        tied,
         ..
     } = counts;
     writeln!(
         text,
-        " mine better {mine_better} theirs better {theirs_better} equal {equal}"
+        " mine better {mine_better} theirs better {theirs_better} equal {equal} tie {tied}"
     )
 }
 
