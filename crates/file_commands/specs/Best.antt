@@ -1,28 +1,30 @@
 -- The command `best`, which writes the collection over all its inputs.
-use Rattle.std.specs.Prelude.{ℕ, List, Option, codes}
+use Rattle.std.specs.Prelude.{◌≡◌, ℕ, List, Option, codes, option_map, string_bytes}
 use Rattle.std.specs.List.{AllByRecursion}
 use Rattle.std.specs.Io.KnownBytes.{Appends}
-use Rattle.clap.specs.Words.{App, Row, Text, new_app, with_rule}
+use Rattle.clap.specs.Words.{App, Row, Text, first_of, new_app, with_rule}
 use Rattle.tws_file.specs.declared.«ruleset».Ruleset.{Ruleset}
 use Rattle.tws_file.specs.Text.{IsReadable}
 use Rattle.byte_output.specs.Output.{AppendsPrefix}
 use Rattle.tws_best.specs.Best.{Collected, IsCollectionOf, collection_text}
 use Rattle.command_line.specs.declared.tool_fault.ToolFault.{ToolFault}
 use Rattle.command_line.specs.Arguments.{HasRuleset, HasSources, RulesetNames, files_rule, ruleset_rule}
+use Rattle.show_commands.specs.Output.{output_rule}
 use Rattle.file_commands.specs.declared.best.BestArguments.{BestArguments}
 use Rattle.file_commands.specs.SeveralInputs.{AreReported, FilesFail, FilesRanFrom}
 
 abbrev pub best_name : Text
 best_name = codes "best"
 
--- `best RULESET FILE..`
+-- `best [-o FILE] RULESET FILE..`
 abbrev pub best_app : RulesetNames → App
-best_app names = with_rule (with_rule (new_app best_name) (ruleset_rule names)) files_rule
+best_app names = with_rule (with_rule (with_rule (new_app best_name) (ruleset_rule names)) files_rule) output_rule
 
 -- what was found for its arguments
 pub record AsksForBest (rows : List Row) (arguments : BestArguments) : Type 0 where
   pub rules_are : HasRuleset rows arguments.ruleset
   pub files_are : HasSources rows arguments.files.items
+  pub output_is : option_map string_bytes arguments.output ≡ first_of output_rule.id rows
 
 -- ---- what it writes
 

@@ -1,5 +1,5 @@
 -- The command `compare`, which compares two solution files, mine and theirs, or writes what is better in mine.
-use Rattle.std.specs.Prelude.{◌≡◌, ◌≢◌, ◌⊎◌, ℕ, zero, suc, ◌≤◌, Bool, true, false, List, Option, Some, IfSome, Result, Ok, Err, string_bytes, codes}
+use Rattle.std.specs.Prelude.{◌≡◌, ◌≢◌, ◌⊎◌, ℕ, zero, suc, ◌≤◌, Bool, true, false, List, Option, Some, IfSome, Result, Ok, Err, option_map, string_bytes, codes}
 use Rattle.std.specs.Io.KnownBytes.{Appends}
 use Rattle.clap.specs.Words.{App, Row, Rule, Text, first_of, new_app, new_rule, with_rule}
 use Rattle.clap.specs.declared.builder.action.ArgAction.TheVariants.{SetTrue}
@@ -10,6 +10,7 @@ use Rattle.tws_file.specs.Fault.{HasFileFault}
 use Rattle.tws_best.specs.Best.{collection_text}
 use Rattle.tws_compare.specs.Compare.{rows_of, better_of}
 use Rattle.tws_compare.specs.Lines.{comparison_text}
+use Rattle.show_commands.specs.Output.{output_rule}
 use Rattle.file_commands.specs.declared.compare.CompareArguments.{CompareArguments}
 use Rattle.command_line.specs.declared.tool_fault.ToolFault.{ToolFault}
 use Rattle.command_line.specs.declared.tool_fault.ToolFault.TheVariants.{Read, Write, Unreadable, Memory, Socket, Transfer}
@@ -31,15 +32,20 @@ theirs_rule = record (new_rule (codes "theirs")) { value_names = 1; required = t
 abbrev pub better_rule : Rule
 better_rule = record (new_rule (codes "better")) { long = Some (codes "better"); action = Some SetTrue }
 
--- `compare [--better] MINE THEIRS`
+-- without `--output`
+abbrev pub compared_app : App
+compared_app = with_rule (with_rule (with_rule (new_app compare_name) mine_rule) theirs_rule) better_rule
+
+-- `compare [--better] [-o FILE] MINE THEIRS`
 abbrev pub compare_app : App
-compare_app = with_rule (with_rule (with_rule (new_app compare_name) mine_rule) theirs_rule) better_rule
+compare_app = with_rule compared_app output_rule
 
 -- what was found for its arguments
 pub record AsksToCompare (rows : List Row) (arguments : CompareArguments) : Type 0 where
   pub mine_is : first_of mine_rule.id rows ≡ Some (string_bytes arguments.mine)
   pub theirs_is : first_of theirs_rule.id rows ≡ Some (string_bytes arguments.theirs)
   pub better_is : HasFlag better_rule rows arguments.better
+  pub output_is : option_map string_bytes arguments.output ≡ first_of output_rule.id rows
 
 -- ---- what it writes
 

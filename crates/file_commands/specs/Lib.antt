@@ -5,3 +5,4 @@ pub mod Best
 pub mod Compare
 pub mod Page
 pub mod Knowing
+pub mod FileJobs

@@ -1,10 +1,11 @@
 -- The command `page`, which writes the solutions of all its inputs as a page.
-use Rattle.std.specs.Prelude.{ℕ, List, [], ◌∷◌, Option, IfSome, codes}
+use Rattle.std.specs.Prelude.{◌≡◌, ℕ, List, [], ◌∷◌, Option, IfSome, codes, option_map, string_bytes}
 use Rattle.std.specs.Io.KnownBytes.{Appends}
-use Rattle.clap.specs.Words.{App, Row, Text, new_app, with_rule}
+use Rattle.clap.specs.Words.{App, Row, Text, first_of, new_app, with_rule}
 use Rattle.tws_file.specs.Text.{File, IsText}
 use Rattle.byte_output.specs.Output.{AppendsPrefix}
 use Rattle.tws_tables.specs.Page.{page_of}
+use Rattle.show_commands.specs.Output.{output_rule}
 use Rattle.file_commands.specs.declared.page.PageArguments.{PageArguments}
 use Rattle.command_line.specs.declared.tool_fault.ToolFault.{ToolFault}
 use Rattle.command_line.specs.Arguments.{HasSources, files_rule}
@@ -13,13 +14,14 @@ use Rattle.file_commands.specs.SeveralInputs.{FilesFail, FilesRanFrom}
 abbrev pub page_name : Text
 page_name = codes "page"
 
--- `page FILE..`
+-- `page [-o FILE] FILE..`
 abbrev pub page_app : App
-page_app = with_rule (new_app page_name) files_rule
+page_app = with_rule (with_rule (new_app page_name) files_rule) output_rule
 
 -- what was found for its arguments
-abbrev pub AsksForPage : List Row → PageArguments → Type 0
-AsksForPage rows arguments = HasSources rows arguments.files.items
+pub record AsksForPage (rows : List Row) (arguments : PageArguments) : Type 0 where
+  pub files_are : HasSources rows arguments.files.items
+  pub output_is : option_map string_bytes arguments.output ≡ first_of output_rule.id rows
 
 -- these are the files whose texts the inputs are
 abbrev pub AreFiles : List (Option (List ℕ)) → List File → Type 0

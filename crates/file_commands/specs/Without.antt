@@ -1,9 +1,10 @@
 -- The command `without`.
-use Rattle.std.specs.Prelude.{◌≡◌, ◌⊎◌, ℕ, true, List, Option, Some, None, string_bytes, codes}
+use Rattle.std.specs.Prelude.{◌≡◌, ◌⊎◌, ℕ, true, List, Option, Some, None, option_map, string_bytes, codes}
 use Rattle.clap.specs.Words.{App, Row, Rule, Text, first_of, new_app, new_rule, with_rule}
 use Rattle.clap.specs.declared.builder.value_parser.ValueParser.TheVariants as parser
 use Rattle.tws_compare.specs.Password.{IsShown}
 use Rattle.tws_compare.specs.Without.{text_without}
+use Rattle.show_commands.specs.Output.{output_rule}
 use Rattle.file_commands.specs.declared.without.WithoutArguments.{WithoutArguments}
 use Rattle.command_line.specs.Arguments.{HasSource, IsNumberUpTo, source_rule}
 use Rattle.show_commands.specs.Written.{RanFrom}
@@ -19,9 +20,13 @@ level_rule = record (new_rule (codes "level")) { value_names = 1; parser = Some 
 abbrev pub password_rule : Rule
 password_rule = record (new_rule (codes "password")) { value_names = 1; required = true }
 
--- `without LEVEL PASSWORD [FILE]`
+-- without `--output`
+abbrev pub removing_app : App
+removing_app = with_rule (with_rule (with_rule (new_app without_name) level_rule) password_rule) source_rule
+
+-- `without [-o FILE] LEVEL PASSWORD [FILE]`
 abbrev pub without_app : App
-without_app = with_rule (with_rule (with_rule (new_app without_name) level_rule) password_rule) source_rule
+without_app = with_rule removing_app output_rule
 
 -- what was given is a level's number
 abbrev pub IsLevel : Option Text → ℕ → Type 0
@@ -33,6 +38,7 @@ pub record AsksForWithout (rows : List Row) (arguments : WithoutArguments) : Typ
   pub level_is : IsLevel (first_of level_rule.id rows) arguments.level
   pub password_is : first_of password_rule.id rows ≡ Some (string_bytes arguments.password)
   pub source_is : HasSource rows arguments.source
+  pub output_is : option_map string_bytes arguments.output ≡ first_of output_rule.id rows
 
 -- the text is no password, and nothing was read or written
 pub record HasNoPassword (Unread : Type 0) (text : Text) (status : ℕ) (old new : Option (List ℕ)) : Type 0 where

@@ -15,9 +15,9 @@ use crate::arguments::files_argument;
 use crate::several_inputs::{SeveralInputsCommand, run_several_inputs};
 use clap::{ArgMatches, Command};
 use command_line::{
-    Source, ToolFault, new_command, ruleset_argument, ruleset_given, sources_given,
+    Source, ToolFault, new_command, ruleset_argument, ruleset_given, sources_given, string_given,
 };
-use show_commands::read_input;
+use show_commands::{output_argument, read_input};
 use std::alloc::{AllocError, Global};
 use std::io::{Read, Write};
 use std::mem;
@@ -32,13 +32,15 @@ pub struct BestArguments {
     pub ruleset: Ruleset,
     /// The files, which standard input may be among.
     pub files: Vec<Source>,
+    /// The file that is written in place of standard output, if one was named.
+    pub output: Option<String>,
 }
 
 // What the help of the command begins and ends with.
 const ABOUT: &str = "Write the best solution of each level of several files";
 
 const HELP: &str =
-    "The best has the fewest ticks. The collection goes to standard output.\n\nExample: tws best lynx mine.tws yours.tws > best.tws";
+    "The best has the fewest ticks.\n\nExample: tws best lynx mine.tws yours.tws -o best.tws";
 
 /// The command, as `clap` reads it, with these names of the rulesets.
 ///
@@ -51,7 +53,8 @@ pub fn command<'a>(alloc: Global, names: &'a [&'a str]) -> Result<Command<'a>, A
 {
     new_command(alloc, "best", ABOUT, HELP)
         .arg(ruleset_argument(alloc, names))?
-        .arg(files_argument(alloc))
+        .arg(files_argument(alloc))?
+        .arg(output_argument(alloc))
 }
 
 /// What the arguments ask for; `None` if the ruleset is unknown.
@@ -66,7 +69,12 @@ pub fn asked(alloc: Global, words: &ArgMatches) -> Result<Option<BestArguments>,
         return Ok(None);
     };
     let files = sources_given(alloc, words)?;
-    Ok(Some(BestArguments { ruleset, files }))
+    let output = string_given(alloc, words, "output")?;
+    Ok(Some(BestArguments {
+        ruleset,
+        files,
+        output,
+    }))
 }
 
 // The collection over all inputs, each of which is read to its end.
@@ -137,7 +145,7 @@ impl SeveralInputsCommand for BestArguments {
     ghost prefix_less = { λ arguments. best_prefix_less arguments.«ruleset» };
 }
 
-/// Runs `best` over its files, and returns the exit status: 0 if all was done, 2 if reading, writing or memory
+/// Runs `best` over its files and this output, whatever its arguments say of one, and returns the exit status: 0 if all was done, 2 if reading, writing or memory
 /// failed, 3 for an input that is not a solution file. A fault goes to `errors`.
 ///
 /// Files are opened by their names in `system`, all of them before one is read. Standard input, if it is among the

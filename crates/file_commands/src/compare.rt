@@ -6,13 +6,13 @@ ghost use Rattle.clap.specs.Matches.{found_of};
 ghost use Rattle.clap.specs.Words.{app_of, rows_of, rule_of};
 ghost use Rattle.clap.specs.declared.builder.command.Command.TheViews.{out-Command};
 ghost use Rattle.command_line.specs.Arguments.{Answers};
-ghost use Rattle.file_commands.specs.Compare.{AsksToCompare, CompareFails, CompareRan, Compares, ComparesFiles, FilesFail, better_rule, compare_app, compare_status, mine_rule, theirs_rule};
+ghost use Rattle.file_commands.specs.Compare.{AsksToCompare, CompareFails, CompareRan, Compares, ComparesFiles, FilesFail, better_rule, compare_app, compare_status, compared_app, mine_rule, theirs_rule};
 ghost use Rattle.command_line.specs.Faults.{status_of};
 
 use byte_output::put;
 use clap::{Arg, ArgAction, ArgMatches, Command};
 use command_line::{DONE, ToolFault, USAGE, new_command, report, report_file, string_given};
-use show_commands::read_input;
+use show_commands::{output_argument, read_input};
 use std::alloc::{AllocError, Global};
 use std::io::{Read, Write};
 use std::slice;
@@ -29,6 +29,8 @@ pub struct CompareArguments {
     pub theirs: String,
     /// Whether to write what is better in mine, instead of the comparison.
     pub better: bool,
+    /// The file that is written in place of standard output, if one was named.
+    pub output: Option<String>,
 }
 
 fn mine_argument<'a>(alloc: Global) -> Arg<'a>
@@ -67,6 +69,17 @@ const ABOUT: &str = "Compare the best solutions of two solution files";
 const HELP: &str =
     "Writes a line for each level number and password, and one with their counts.\n\nExample: tws compare mine.tws lynx.tws";
 
+// The command without its option for the output.
+fn compared_command<'a>(alloc: Global) -> Result<Command<'a>, AllocError>
+    ensures app { IfOk result (λ command. app_of command ≡ compared_app) }
+    ensures local { IfOk result (λ command. (out-Command command).has_globals ≡ false) }
+{
+    new_command(alloc, "compare", ABOUT, HELP)
+        .arg(mine_argument(alloc))?
+        .arg(theirs_argument(alloc))?
+        .arg(better_argument(alloc))
+}
+
 /// The command, as `clap` reads it.
 ///
 /// # Errors
@@ -76,10 +89,7 @@ pub fn command<'a>(alloc: Global) -> Result<Command<'a>, AllocError>
     ensures app { IfOk result (λ command. app_of command ≡ compare_app) }
     ensures local { IfOk result (λ command. (out-Command command).has_globals ≡ false) }
 {
-    new_command(alloc, "compare", ABOUT, HELP)
-        .arg(mine_argument(alloc))?
-        .arg(theirs_argument(alloc))?
-        .arg(better_argument(alloc))
+    compared_command(alloc)?.arg(output_argument(alloc))
 }
 
 /// What the arguments ask for; `None` if a file has no name.
@@ -97,10 +107,12 @@ pub fn asked(alloc: Global, words: &ArgMatches) -> Result<Option<CompareArgument
         return Ok(None);
     };
     let better = words.get_flag("better");
+    let output = string_given(alloc, words, "output")?;
     Ok(Some(CompareArguments {
         mine,
         theirs,
         better,
+        output,
     }))
 }
 
@@ -229,7 +241,7 @@ fn end<E: Write>(done: Result<bool, ToolFault>, arguments: &CompareArguments, er
     }
 }
 
-/// Runs `compare` over the files of its names, and returns the exit status: 0 if all was done, 1 if the files are of
+/// Runs `compare` over the files of its names and this output, whatever its arguments say of one, and returns the exit status: 0 if all was done, 1 if the files are of
 /// different rulesets, 2 if reading, writing or memory failed, 3 for a file that is not a solution file. A fault goes
 /// to `errors`. Both files are opened in `system` before one is read.
 pub fn run<S: FileSystem, W: Write, E: Write>(

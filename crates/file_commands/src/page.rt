@@ -14,8 +14,8 @@ ghost use Rattle.file_commands.specs.Knowing.{page_prefix_less, page_writes_less
 use crate::arguments::files_argument;
 use crate::several_inputs::{SeveralInputsCommand, run_several_inputs};
 use clap::{ArgMatches, Command};
-use command_line::{Source, ToolFault, new_command, sources_given};
-use show_commands::read_input;
+use command_line::{Source, ToolFault, new_command, sources_given, string_given};
+use show_commands::{output_argument, read_input};
 use std::alloc::{AllocError, Global};
 use std::io::{Read, Write};
 use system_files::FileSystem;
@@ -27,13 +27,15 @@ use tws_tables::write_page;
 pub struct PageArguments {
     /// The files, which standard input may be among.
     pub files: Vec<Source>,
+    /// The file that is written in place of standard output, if one was named.
+    pub output: Option<String>,
 }
 
 // What the help of the command begins and ends with.
 const ABOUT: &str = "Write the solutions of several files as a page of HTML";
 
 const HELP: &str =
-    "The page needs no other file. It goes to standard output.\n\nExample: tws page lynx.tws ms.tws > best.html";
+    "The page needs no other file.\n\nExample: tws page lynx.tws ms.tws -o best.html";
 
 /// The command, as `clap` reads it.
 ///
@@ -44,7 +46,9 @@ pub fn command<'a>(alloc: Global) -> Result<Command<'a>, AllocError>
     ensures app { IfOk result (λ command. app_of command ≡ page_app) }
     ensures local { IfOk result (λ command. (out-Command command).has_globals ≡ false) }
 {
-    new_command(alloc, "page", ABOUT, HELP).arg(files_argument(alloc))
+    new_command(alloc, "page", ABOUT, HELP)
+        .arg(files_argument(alloc))?
+        .arg(output_argument(alloc))
 }
 
 /// What the arguments ask for.
@@ -56,7 +60,8 @@ pub fn asked(alloc: Global, words: &ArgMatches) -> Result<PageArguments, AllocEr
     ensures { IfOk result (AsksForPage (rows_of (found_of words.now))) }
 {
     let files = sources_given(alloc, words)?;
-    Ok(PageArguments { files })
+    let output = string_given(alloc, words, "output")?;
+    Ok(PageArguments { files, output })
 }
 
 // The solution files in all inputs, each of which is read to its end.
@@ -118,7 +123,7 @@ impl SeveralInputsCommand for PageArguments {
     ghost prefix_less = { λ _. page_prefix_less };
 }
 
-/// Runs `page` over its files, and returns the exit status, which is that of `best::run`; the inputs are read as there.
+/// Runs `page` over its files and this output, whatever its arguments say of one, and returns the exit status, which is that of `best::run`; the inputs are read as there.
 pub fn run<S: FileSystem, R: Read, W: Write, E: Write>(
     system: &S,
     alloc: Global,

@@ -7,7 +7,7 @@ ghost use Rattle.clap.specs.Words.{app_of, first_of, rows_of, rule_of};
 ghost use Rattle.clap.specs.declared.builder.command.Command.TheViews.{out-Command};
 ghost use Rattle.tws_compare.specs.Without.{text_without};
 ghost use Rattle.command_line.specs.Arguments.{Answers};
-ghost use Rattle.file_commands.specs.Without.{AsksForWithout, IsLevel, WithoutRan, level_rule, password_rule, without_app};
+ghost use Rattle.file_commands.specs.Without.{AsksForWithout, IsLevel, WithoutRan, level_rule, password_rule, removing_app, without_app};
 ghost use Rattle.command_line.specs.Faults.{IsReadOut};
 ghost use Rattle.show_commands.specs.Written.{Writes, WriteFails};
 
@@ -17,7 +17,7 @@ use command_line::{
     Source, ToolFault, USAGE, new_command, number_up_to, source_argument, source_given,
     string_given, text_given,
 };
-use show_commands::{OneInputCommand, read_input, run_one_input};
+use show_commands::{OneInputCommand, output_argument, read_input, run_one_input};
 use std::alloc::{AllocError, Global};
 use std::io::{Read, Write};
 use system_files::FileSystem;
@@ -33,6 +33,8 @@ pub struct WithoutArguments {
     pub password: String,
     /// The solution file.
     pub source: Source,
+    /// The file that is written in place of standard output, if one was named.
+    pub output: Option<String>,
 }
 
 fn level_argument<'a>(alloc: Global) -> Arg<'a>
@@ -60,7 +62,18 @@ fn password_argument<'a>(alloc: Global) -> Arg<'a>
 const ABOUT: &str = "Write a solution file without the solutions of a level";
 
 const HELP: &str =
-    "Everything else stays as it is. The file goes to standard output.\n\nExample: tws without 1 BDHP lynx.tws > mended.tws";
+    "Everything else stays as it is.\n\nExample: tws without 1 BDHP lynx.tws -o mended.tws";
+
+// The command without its option for the output.
+fn removing_command<'a>(alloc: Global) -> Result<Command<'a>, AllocError>
+    ensures app { IfOk result (λ command. app_of command ≡ removing_app) }
+    ensures local { IfOk result (λ command. (out-Command command).has_globals ≡ false) }
+{
+    new_command(alloc, "without", ABOUT, HELP)
+        .arg(level_argument(alloc))?
+        .arg(password_argument(alloc))?
+        .arg(source_argument(alloc))
+}
 
 /// The command, as `clap` reads it.
 ///
@@ -71,10 +84,7 @@ pub fn command<'a>(alloc: Global) -> Result<Command<'a>, AllocError>
     ensures app { IfOk result (λ command. app_of command ≡ without_app) }
     ensures local { IfOk result (λ command. (out-Command command).has_globals ≡ false) }
 {
-    new_command(alloc, "without", ABOUT, HELP)
-        .arg(level_argument(alloc))?
-        .arg(password_argument(alloc))?
-        .arg(source_argument(alloc))
+    removing_command(alloc)?.arg(output_argument(alloc))
 }
 
 // The number of the level that was given; `None` if that is not a number in range.
@@ -101,10 +111,12 @@ pub fn asked(alloc: Global, words: &ArgMatches) -> Result<Option<WithoutArgument
         return Ok(None);
     };
     let source = source_given(alloc, words)?;
+    let output = string_given(alloc, words, "output")?;
     Ok(Some(WithoutArguments {
         level,
         password,
         source,
+        output,
     }))
 }
 
@@ -162,7 +174,7 @@ fn bad_password<E: Write>(errors: &mut E) -> u8
     USAGE
 }
 
-/// Runs `without`, and returns the exit status: 1 if what was typed is not a password, and otherwise that of
+/// Runs `without` over this output, whatever its arguments say of one, and returns the exit status: 1 if what was typed is not a password, and otherwise that of
 /// `run_one_input`.
 pub fn run<S: FileSystem, R: Read, W: Write, E: Write>(
     system: &S,

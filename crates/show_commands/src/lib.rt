@@ -4,12 +4,13 @@
 //!
 //! Each command is a module with `command`, its command line, `asked`, what its arguments ask for, and `run`, which
 //! does that, beside a function over any reader and writer, such as `run_show`. The list is in `show_job.rt`;
-//! `input.rt` reads a solution file to the end of an input, and `one_input.rt` runs a command of one input, for every
-//! command on files.
+//! `input.rt` reads a solution file to the end of an input, `one_input.rt` runs a command of one input, and `output.rt` puts
+//! its text into a file, for every command on files.
 #![tactic(auto)]
 
 mod input;
 mod one_input;
+mod output;
 pub mod pack;
 mod program;
 mod reader_sink;
@@ -18,6 +19,7 @@ mod show_job;
 
 pub use input::read_input;
 pub use one_input::{OneInputCommand, run_one_input};
+pub use output::{output_argument, output_name, refuse_terminal, save};
 pub use pack::{PackArguments, run_pack};
 pub use program::run_show_words;
 pub use show::{ShowArguments, run_csv, run_show};

@@ -12,8 +12,9 @@ ghost use Rattle.show_commands.specs.Written.{Writes, WriteFails};
 
 use crate::input::read_input;
 use crate::one_input::{OneInputCommand, run_one_input};
+use crate::output::output_argument;
 use clap::{ArgMatches, Command};
-use command_line::{Source, ToolFault, new_command, source_argument, source_given};
+use command_line::{Source, ToolFault, new_command, source_argument, source_given, string_given};
 use std::alloc::{AllocError, Global};
 use std::io::{Read, Write};
 use system_files::FileSystem;
@@ -24,13 +25,15 @@ use tws_file::{pack, write_file};
 pub struct PackArguments {
     /// The solution file.
     pub source: Source,
+    /// The file that is written in place of standard output, if one was named.
+    pub output: Option<String>,
 }
 
 // What the help of the command begins and ends with.
 const ABOUT: &str = "Write a solution file with its moves in the fewest bytes";
 
 const HELP: &str =
-    "Nothing but the bytes of the moves changes. The file goes to standard output.\n\nExample: tws pack mine.tws > packed.tws";
+    "Nothing but the bytes of the moves changes.\n\nExample: tws pack mine.tws -o packed.tws";
 
 /// The command, as `clap` reads it.
 ///
@@ -41,7 +44,9 @@ pub fn command<'a>(alloc: Global) -> Result<Command<'a>, AllocError>
     ensures app { IfOk result (λ command. app_of command ≡ pack_app) }
     ensures local { IfOk result (λ command. (out-Command command).has_globals ≡ false) }
 {
-    new_command(alloc, "pack", ABOUT, HELP).arg(source_argument(alloc))
+    new_command(alloc, "pack", ABOUT, HELP)
+        .arg(source_argument(alloc))?
+        .arg(output_argument(alloc))
 }
 
 /// What the arguments ask for.
@@ -53,7 +58,8 @@ pub fn asked(alloc: Global, words: &ArgMatches) -> Result<PackArguments, AllocEr
     ensures { IfOk result (AsksToPack (rows_of (found_of words.now))) }
 {
     let source = source_given(alloc, words)?;
-    Ok(PackArguments { source })
+    let output = string_given(alloc, words, "output")?;
+    Ok(PackArguments { source, output })
 }
 
 /// Reads a solution file to its end, and writes it with each solution's moves in the fewest bytes.
@@ -94,7 +100,7 @@ impl OneInputCommand for PackArguments {
     }
 }
 
-/// Runs `pack`, and returns the exit status, which is that of `run_one_input`.
+/// Runs `pack` over this output, whatever its arguments say of one, and returns the exit status, which is that of `run_one_input`.
 pub fn run<S: FileSystem, R: Read, W: Write, E: Write>(
     system: &S,
     alloc: Global,

@@ -34,25 +34,26 @@ fn job_in(alloc: Global, words: &[String]) -> Result<ShowJob, JobFault>
 }
 
 /// Does what the arguments ask for, and returns the exit status, which is that of `run_show_job` for a job, 0 also for help,
-/// whose text goes to `out`, and 1 for a usage error. The first argument is the program's name. A fault goes to `errors`,
-/// on one line or two.
+/// whose text goes to `out`, and 1 for a usage error. The first argument is the program's name; `to_terminal` says whether
+/// `out` is a terminal. A fault goes to `errors`, on one line or two.
 pub fn run_show_words<S: FileSystem, R: Read, W: Write, E: Write>(
-    system: &S,
+    system: &mut S,
     alloc: Global,
     words: &[String],
+    to_terminal: bool,
     input: &mut R,
     out: &mut W,
     errors: &mut E,
 ) -> u8
     // The job is the one that the arguments ask for, with the files that they name.
-    ensures ran { (job : Result ShowJob JobFault) × AnswersShowWords (map string_bytes words.now) job × ShowWordsRan (S.bytes_of system.now) (input.new ≡ input.old) job result (R.remaining input.old) (R.remaining input.new) (W.contents out.old) (W.contents out.new) }
+    ensures ran { (job : Result ShowJob JobFault) × AnswersShowWords (map string_bytes words.now) job × ShowWordsRan to_terminal (S.bytes_of system.old) (S.drafted_of system.old) (S.bytes_of system.new) (input.new ≡ input.old) (out.new ≡ out.old) job result (R.remaining input.old) (R.remaining input.new) (W.contents out.old) (W.contents out.new) }
     ensures usage { result ≡ 1 → (input.new ≡ input.old) × (out.new ≡ out.old) }
     ensures few { result ≤ 3 }
     ensures unreadable { result ≡ 3 → out.new ≡ out.old }
     ensures silent { result ≡ 0 → errors.new ≡ errors.old }
 {
     match job_in(alloc, words) {
-        Ok(job) => run_show_job(system, alloc, &job, input, out, errors),
+        Ok(job) => run_show_job(system, alloc, &job, to_terminal, input, out, errors),
         Err(fault) => report_job_fault(alloc, &fault, out, errors),
     }
 }

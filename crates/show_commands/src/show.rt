@@ -7,14 +7,15 @@ ghost use Rattle.clap.specs.Words.{app_of, rows_of, rule_of};
 ghost use Rattle.clap.specs.declared.builder.command.Command.TheViews.{out-Command};
 ghost use Rattle.tws_tables.specs.Listing.{listing_of};
 ghost use Rattle.tws_tables.specs.Csv.{csv_of};
-ghost use Rattle.show_commands.specs.Show.{AsksToShow, ShowRan, csv_rule, moves_rule, show_app, shown_text};
+ghost use Rattle.show_commands.specs.Show.{AsksToShow, ShowRan, csv_rule, listing_app, moves_rule, show_app, shown_text};
 ghost use Rattle.command_line.specs.Faults.{IsBeforeOutput, IsReadOut};
 ghost use Rattle.show_commands.specs.Written.{Writes, WriteFails};
 
 use crate::input::read_input;
 use crate::one_input::{OneInputCommand, run_one_input};
+use crate::output::output_argument;
 use clap::{Arg, ArgAction, ArgMatches, Command};
-use command_line::{Source, ToolFault, new_command, source_argument, source_given};
+use command_line::{Source, ToolFault, new_command, source_argument, source_given, string_given};
 use std::alloc::{AllocError, Global};
 use std::io::{Read, Write};
 use system_files::FileSystem;
@@ -29,6 +30,8 @@ pub struct ShowArguments {
     pub moves: bool,
     /// Whether to write comma-separated values, in which there are no lines for moves.
     pub csv: bool,
+    /// The file that is written in place of standard output, if one was named.
+    pub output: Option<String>,
 }
 
 fn moves_argument<'a>(alloc: Global) -> Arg<'a>
@@ -57,6 +60,17 @@ const ABOUT: &str = "List a solution file";
 const HELP: &str =
     "Writes a line for the header, one for each record, and one for their number.\n\nExample: tws show --moves mine.tws";
 
+// The command without its option for the output.
+fn listing_command<'a>(alloc: Global) -> Result<Command<'a>, AllocError>
+    ensures app { IfOk result (λ command. app_of command ≡ listing_app) }
+    ensures local { IfOk result (λ command. (out-Command command).has_globals ≡ false) }
+{
+    new_command(alloc, "show", ABOUT, HELP)
+        .arg(source_argument(alloc))?
+        .arg(moves_argument(alloc))?
+        .arg(csv_argument(alloc))
+}
+
 /// The command, as `clap` reads it.
 ///
 /// # Errors
@@ -66,10 +80,7 @@ pub fn command<'a>(alloc: Global) -> Result<Command<'a>, AllocError>
     ensures app { IfOk result (λ command. app_of command ≡ show_app) }
     ensures local { IfOk result (λ command. (out-Command command).has_globals ≡ false) }
 {
-    new_command(alloc, "show", ABOUT, HELP)
-        .arg(source_argument(alloc))?
-        .arg(moves_argument(alloc))?
-        .arg(csv_argument(alloc))
+    listing_command(alloc)?.arg(output_argument(alloc))
 }
 
 /// What the arguments ask for.
@@ -83,7 +94,13 @@ pub fn asked(alloc: Global, words: &ArgMatches) -> Result<ShowArguments, AllocEr
     let source = source_given(alloc, words)?;
     let moves = words.get_flag("moves");
     let csv = words.get_flag("csv");
-    Ok(ShowArguments { source, moves, csv })
+    let output = string_given(alloc, words, "output")?;
+    Ok(ShowArguments {
+        source,
+        moves,
+        csv,
+        output,
+    })
 }
 
 /// Reads a solution file to its end, and writes its listing, with a line for each move if `moves` is set.
@@ -151,7 +168,7 @@ impl OneInputCommand for ShowArguments {
     }
 }
 
-/// Runs `show`, and returns the exit status, which is that of `run_one_input`.
+/// Runs `show` over this output, whatever its arguments say of one, and returns the exit status, which is that of `run_one_input`.
 pub fn run<S: FileSystem, R: Read, W: Write, E: Write>(
     system: &S,
     alloc: Global,

@@ -22,6 +22,7 @@ fn run(rt: &HostRuntime) -> io::Result<u8> {
         rt,
         rt.alloc(),
         &words,
+        rt.stdout().is_terminal(),
         terminal,
         &mut input,
         &mut out,

@@ -4,6 +4,7 @@
 
 use command_line::{report_arguments, report_streams};
 use show_commands::run_show_words;
+use std::io::IsTerminal;
 use std::process::ExitCode;
 use std::{env, io};
 use system_files::{System, WithLastError};
@@ -16,9 +17,10 @@ fn run(rt: &HostRuntime) -> io::Result<u8> {
     );
     let mut errors = rt.stderr();
     let status = run_show_words(
-        &System(*rt),
+        &mut System(*rt),
         rt.alloc(),
         &words,
+        rt.stdout().is_terminal(),
         &mut input,
         &mut out,
         &mut errors,

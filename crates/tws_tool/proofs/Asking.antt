@@ -3,7 +3,8 @@ use Rattle.std.proofs.Common.{true, false, refl, ◌≡◌, ◌≤◌, ℕ, [], 
 use Rattle.clap.specs.Words.{Text, fault_of}
 use Rattle.clap.specs.declared.error.kind.ErrorKind.TheVariants.{DisplayVersion}
 use Rattle.clap.proofs.OnLiterals.{clap_on_literals}
-use Rattle.tws_tool.specs.declared.job.Job.TheVariants.{Pack, Serve, Show}
+use Rattle.file_commands.specs.declared.file_job.FileJob.TheVariants.{Pack, Show}
+use Rattle.tws_tool.specs.declared.job.Job.TheVariants.{Files, Serve}
 use Rattle.command_line.specs.declared.source.Source.TheVariants.{Standard}
 use Rattle.std.specs.Str.Parse.{IsNumeral, digits_value, without_leading_plus}
 use Rattle.command_line.specs.Arguments.{IsNumberUpTo, RulesetNames}
@@ -11,24 +12,24 @@ use Rattle.command_line.specs.CommandLine.{AsksIn}
 use Rattle.tws_tool.specs.Jobs.{AsksFor, tws_app}
 
 -- `tws show`
-pub asks_for_show : (names : RulesetNames) (program : Text) → AsksIn AsksFor (tws_app names) (program ∷ codes "show" ∷ []) (Show (record { source = Standard; moves = false; csv = false }))
+pub asks_for_show : (names : RulesetNames) (program : Text) → AsksIn AsksFor (tws_app names) (program ∷ codes "show" ∷ []) (Files (Show (record { source = Standard; moves = false; csv = false; output = None })))
 unfolding clap_on_literals
-asks_for_show names program = (refl, (_, refl, (refl, record { source_is = tt; moves_are = ((λ e. absurd cc), (λ e. refl), (λ e. refl)); csv_is = ((λ e. absurd cc), (λ e. refl), (λ e. refl)) })))
+asks_for_show names program = (refl, (_, refl, (refl, record { source_is = tt; moves_are = ((λ e. absurd cc), (λ e. refl), (λ e. refl)); csv_is = ((λ e. absurd cc), (λ e. refl), (λ e. refl)); output_is = refl })))
 
 -- `tws show --moves`
-pub asks_for_moves : (names : RulesetNames) (program : Text) → AsksIn AsksFor (tws_app names) (program ∷ codes "show" ∷ codes "--moves" ∷ []) (Show (record { source = Standard; moves = true; csv = false }))
+pub asks_for_moves : (names : RulesetNames) (program : Text) → AsksIn AsksFor (tws_app names) (program ∷ codes "show" ∷ codes "--moves" ∷ []) (Files (Show (record { source = Standard; moves = true; csv = false; output = None })))
 unfolding clap_on_literals
-asks_for_moves names program = (refl, (_, refl, (refl, record { source_is = tt; moves_are = ((λ e. refl), (λ e. absurd cc), (λ e. absurd cc)); csv_is = ((λ e. absurd cc), (λ e. refl), (λ e. refl)) })))
+asks_for_moves names program = (refl, (_, refl, (refl, record { source_is = tt; moves_are = ((λ e. refl), (λ e. absurd cc), (λ e. absurd cc)); csv_is = ((λ e. absurd cc), (λ e. refl), (λ e. refl)); output_is = refl })))
 
 -- `tws show --csv`
-pub asks_for_csv : (names : RulesetNames) (program : Text) → AsksIn AsksFor (tws_app names) (program ∷ codes "show" ∷ codes "--csv" ∷ []) (Show (record { source = Standard; moves = false; csv = true }))
+pub asks_for_csv : (names : RulesetNames) (program : Text) → AsksIn AsksFor (tws_app names) (program ∷ codes "show" ∷ codes "--csv" ∷ []) (Files (Show (record { source = Standard; moves = false; csv = true; output = None })))
 unfolding clap_on_literals
-asks_for_csv names program = (refl, (_, refl, (refl, record { source_is = tt; moves_are = ((λ e. absurd cc), (λ e. refl), (λ e. refl)); csv_is = ((λ e. refl), (λ e. absurd cc), (λ e. absurd cc)) })))
+asks_for_csv names program = (refl, (_, refl, (refl, record { source_is = tt; moves_are = ((λ e. absurd cc), (λ e. refl), (λ e. refl)); csv_is = ((λ e. refl), (λ e. absurd cc), (λ e. absurd cc)); output_is = refl })))
 
 -- `tws pack`
-pub asks_for_pack : (names : RulesetNames) (program : Text) → AsksIn AsksFor (tws_app names) (program ∷ codes "pack" ∷ codes "-" ∷ []) (Pack (record { source = Standard }))
+pub asks_for_pack : (names : RulesetNames) (program : Text) → AsksIn AsksFor (tws_app names) (program ∷ codes "pack" ∷ codes "-" ∷ []) (Files (Pack (record { source = Standard; output = None })))
 unfolding clap_on_literals
-asks_for_pack names program = (refl, (_, refl, (refl, refl)))
+asks_for_pack names program = (refl, (_, refl, (refl, record { source_is = refl; output_is = refl })))
 
 -- `tws serve`, with the default port, turns, transfers of one host and limit, at every address, no folder, no log and no
 -- history

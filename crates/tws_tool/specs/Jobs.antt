@@ -1,6 +1,6 @@
--- The list of all commands: the command line, which job each command asks for, and what each job did. A command on files is
--- defined in `file_commands`, or in `show_commands` if it has one input, and one of the archive in `archive_commands`.
-use Rattle.std.specs.Prelude.{◌≡◌, ℕ, List, Option, Result, Ok, Err}
+-- The list of all commands: the command line, which job each command asks for, and what each job did. The commands on files
+-- are those of `file_commands`, and a command of the archive is defined in `archive_commands`.
+use Rattle.std.specs.Prelude.{◌≡◌, ℕ, Bool, List, Option, Result, Ok, Err}
 use Rattle.clap.specs.Words.{App, Row, Text, with_subcommand}
 use Rattle.archive_wire.specs.Wire.{Entry}
 use Rattle.tws_tool.specs.declared.job.Job.{Job}
@@ -9,12 +9,13 @@ use Rattle.command_line.specs.declared.job_fault.JobFault.{JobFault}
 use Rattle.command_line.specs.Arguments.{RulesetNames}
 use Rattle.command_line.specs.CommandLine.{top_app}
 use Rattle.command_line.specs.Help.{NoJobRan}
-use Rattle.show_commands.specs.Show.{AsksToShow, ShowRan, show_app, show_name}
-use Rattle.show_commands.specs.Pack.{AsksToPack, PackRan, pack_app, pack_name}
-use Rattle.file_commands.specs.Without.{AsksForWithout, WithoutRan, without_app, without_name}
-use Rattle.file_commands.specs.Best.{AsksForBest, BestRan, best_app, best_name}
-use Rattle.file_commands.specs.Compare.{AsksToCompare, CompareRan, compare_app, compare_name}
-use Rattle.file_commands.specs.Page.{AsksForPage, PageRan, page_app, page_name}
+use Rattle.show_commands.specs.Show.{show_app}
+use Rattle.show_commands.specs.Pack.{pack_app}
+use Rattle.file_commands.specs.FileJobs.{AsksForFileJob, FileJobRuns}
+use Rattle.file_commands.specs.Without.{without_app}
+use Rattle.file_commands.specs.Best.{best_app}
+use Rattle.file_commands.specs.Compare.{compare_app}
+use Rattle.file_commands.specs.Page.{page_app}
 use Rattle.archive_commands.specs.Serve.{AsksToServe, ServeRan, serve_app, serve_name}
 use Rattle.archive_commands.specs.Put.{AsksToPut, PutRan, put_app, put_name}
 use Rattle.archive_commands.specs.Get.{AsksToGet, GetRan, get_app, get_name}
@@ -30,29 +31,19 @@ tws_app names = with_subcommand (with_subcommand (with_subcommand (files_app nam
 
 -- the command of this name, with what was found for its arguments, asks for the job
 abbrev pub AsksFor : Text × List Row → Job → Type 0
-AsksFor command (job.Show arguments) = (command.0 ≡ show_name) × AsksToShow command.1 arguments
-AsksFor command (job.Pack arguments) = (command.0 ≡ pack_name) × AsksToPack command.1 arguments
-AsksFor command (job.Without arguments) = (command.0 ≡ without_name) × AsksForWithout command.1 arguments
-AsksFor command (job.Best arguments) = (command.0 ≡ best_name) × AsksForBest command.1 arguments
-AsksFor command (job.Compare arguments) = (command.0 ≡ compare_name) × AsksToCompare command.1 arguments
-AsksFor command (job.Page arguments) = (command.0 ≡ page_name) × AsksForPage command.1 arguments
+AsksFor command (job.Files files) = AsksForFileJob command files
 AsksFor command (job.Serve arguments) = (command.0 ≡ serve_name) × AsksToServe command.1 arguments
 AsksFor command (job.Put arguments) = (command.0 ≡ put_name) × AsksToPut command.1 arguments
 AsksFor command (job.Get arguments) = (command.0 ≡ get_name) × AsksToGet command.1 arguments
 
 -- What a job did, by its exit status: 0 if all was done, 1 for a usage error, 2 if reading, writing, a socket or memory
--- failed, 3 for an unreadable solution file, 4 for a failed transfer. Given are what is known of files and hosts, what is
--- known of the bytes of the files afterwards, what holds if standard input was not read, and the ghost calls of a new wire;
--- then what standard input had and has left, and the output before and after. Only `get` changes a file, and only `put` and
--- `get` use a wire.
-abbrev pub JobRuns : (known : Known) (now : List ℕ → Option (List ℕ)) → (Unread : Type 0) → (first : Option (List Entry)) → Result Job JobFault → (status : ℕ) → (had left old new : Option (List ℕ)) → Type 0
-JobRuns known now Unread first (Ok (job.Show arguments)) status had left old new = (now ≡ known.bytes_of) × ShowRan known.bytes_of Unread arguments status had left old new
-JobRuns known now Unread first (Ok (job.Pack arguments)) status had left old new = (now ≡ known.bytes_of) × PackRan known.bytes_of Unread arguments status had left old new
-JobRuns known now Unread first (Ok (job.Without arguments)) status had left old new = (now ≡ known.bytes_of) × WithoutRan known.bytes_of Unread arguments status had left old new
-JobRuns known now Unread first (Ok (job.Best arguments)) status had left old new = (now ≡ known.bytes_of) × BestRan known.bytes_of Unread arguments status had left old new
-JobRuns known now Unread first (Ok (job.Compare arguments)) status had left old new = (now ≡ known.bytes_of) × Unread × CompareRan known.bytes_of arguments status old new
-JobRuns known now Unread first (Ok (job.Page arguments)) status had left old new = (now ≡ known.bytes_of) × PageRan known.bytes_of Unread arguments status had left old new
-JobRuns known now Unread first (Ok (job.Serve arguments)) status had left old new = (now ≡ known.bytes_of) × Unread × ServeRan arguments status old new
-JobRuns known now Unread first (Ok (job.Put arguments)) status had left old new = (now ≡ known.bytes_of) × ((after : Option (List Entry)) × PutRan known.bytes_of known.host_of Unread arguments status first after had left old new)
-JobRuns known now Unread first (Ok (job.Get arguments)) status had left old new = Unread × ((after : Option (List Entry)) × GetRan known arguments status first after now old new)
-JobRuns known now Unread first (Err why) status had left old new = (now ≡ known.bytes_of) × Unread × NoJobRan why status old new
+-- failed, 3 for an unreadable solution file, 4 for a failed transfer. Given are whether standard output is a terminal, what is
+-- known of files and hosts, what is known of the bytes of the files afterwards, what holds if standard input was not read, and
+-- if nothing was written to standard output, and the ghost calls of a new wire; then what standard input had and has left, and
+-- the output before and after. Only `get` and a job with `--output` change a file, and only `put` and `get` use a wire.
+abbrev pub JobRuns : (to_terminal : Bool) → (known : Known) (now : List ℕ → Option (List ℕ)) → (Unread Unwritten : Type 0) → (first : Option (List Entry)) → Result Job JobFault → (status : ℕ) → (had left old new : Option (List ℕ)) → Type 0
+JobRuns to_terminal known now Unread Unwritten first (Ok (job.Files files)) status had left old new = FileJobRuns to_terminal known.bytes_of known.drafted_of now Unread Unwritten files status had left old new
+JobRuns to_terminal known now Unread Unwritten first (Ok (job.Serve arguments)) status had left old new = (now ≡ known.bytes_of) × Unread × ServeRan arguments status old new
+JobRuns to_terminal known now Unread Unwritten first (Ok (job.Put arguments)) status had left old new = (now ≡ known.bytes_of) × ((after : Option (List Entry)) × PutRan known.bytes_of known.host_of Unread arguments status first after had left old new)
+JobRuns to_terminal known now Unread Unwritten first (Ok (job.Get arguments)) status had left old new = Unread × ((after : Option (List Entry)) × GetRan known arguments status first after now old new)
+JobRuns to_terminal known now Unread Unwritten first (Err why) status had left old new = (now ≡ known.bytes_of) × Unread × NoJobRan why status old new

@@ -12,10 +12,8 @@ use archive_commands::{
 };
 use clap::{ArgMatches, Command};
 use command_line::{add_command, new_program};
-use file_commands::{
-    BestArguments, CompareArguments, PageArguments, WithoutArguments, best, compare, page, without,
-};
-use show_commands::{PackArguments, ShowArguments, pack, show};
+use file_commands::{FileJob, best, compare, file_job_of, page, run_file_job, without};
+use show_commands::{pack, show};
 use std::alloc::{AllocError, Global};
 use std::fs::File;
 use std::io::{Read, Write};
@@ -28,18 +26,8 @@ use system_files::FileSystem;
 /// What the program is asked to do.
 #[derive(Drop)]
 pub enum Job {
-    /// To list a solution file, or to write its solutions as comma-separated values.
-    Show(ShowArguments),
-    /// To write a solution file with its moves in the fewest bytes.
-    Pack(PackArguments),
-    /// To write a solution file without the solutions of a level.
-    Without(WithoutArguments),
-    /// To write the collection of the best solutions of several files.
-    Best(BestArguments),
-    /// To compare two solution files.
-    Compare(CompareArguments),
-    /// To write the solutions of several files as a page of HTML.
-    Page(PageArguments),
+    /// What a command on files is asked to do.
+    Files(FileJob),
     /// To serve the archive.
     Serve(ServeArguments),
     /// To send a solution file to an archive.
@@ -77,13 +65,10 @@ pub(crate) fn asked(
 ) -> Result<Option<Job>, AllocError>
     ensures { IfOk result (Answers (AsksFor (name.now, rows_of (found_of words.now)))) }
 {
+    if let Some(files) = file_job_of(alloc, name, words)? {
+        return Ok(Some(Job::Files(files)));
+    }
     match name {
-        "show" => Ok(Some(Job::Show(show::asked(alloc, words)?))),
-        "pack" => Ok(Some(Job::Pack(pack::asked(alloc, words)?))),
-        "without" => Ok(without::asked(alloc, words)?.map(Job::Without)),
-        "best" => Ok(best::asked(alloc, words)?.map(Job::Best)),
-        "compare" => Ok(compare::asked(alloc, words)?.map(Job::Compare)),
-        "page" => Ok(Some(Job::Page(page::asked(alloc, words)?))),
         "serve" => Ok(serve::asked(alloc, words)?.map(Job::Serve)),
         "put" => Ok(put::asked(alloc, words)?.map(Job::Put)),
         "get" => Ok(get::asked(alloc, words)?.map(Job::Get)),
@@ -91,7 +76,8 @@ pub(crate) fn asked(
     }
 }
 
-/// Does a job, and returns the status. Only `put` and `get` need a wire of `network`.
+/// Does a job, and returns the status. Only `put` and `get` need a wire of `network`. `to_terminal` says whether `out` is a
+/// terminal.
 pub(crate) fn run_job<
     S: FileSystem + Resolver,
     N: Network,
@@ -105,23 +91,19 @@ pub(crate) fn run_job<
     rt: P,
     alloc: Global,
     job: &Job,
+    to_terminal: bool,
     input: &mut R,
     out: &mut W,
     errors: &mut E,
 ) -> u8
-    ensures ran { JobRuns (record { bytes_of = S.bytes_of system.old; drafted_of = S.drafted_of system.old; host_of = S.host_of system.old }) (S.bytes_of system.new) (input.new ≡ input.old) (N.first_calls network.old) (Ok job.now) result (R.remaining input.old) (R.remaining input.new) (W.contents out.old) (W.contents out.new) }
+    ensures ran { JobRuns to_terminal (record { bytes_of = S.bytes_of system.old; drafted_of = S.drafted_of system.old; host_of = S.host_of system.old }) (S.bytes_of system.new) (input.new ≡ input.old) (out.new ≡ out.old) (N.first_calls network.old) (Ok job.now) result (R.remaining input.old) (R.remaining input.new) (W.contents out.old) (W.contents out.new) }
     ensures usage { result ≡ 1 → (input.new ≡ input.old) × (out.new ≡ out.old) }
     ensures status { result ≤ 4 }
     ensures unreadable { result ≡ 3 → out.new ≡ out.old }
     ensures silent { result ≡ 0 → errors.new ≡ errors.old }
 {
     match job {
-        Job::Show(arguments) => show::run(system, alloc, arguments, input, out, errors),
-        Job::Pack(arguments) => pack::run(system, alloc, arguments, input, out, errors),
-        Job::Without(arguments) => without::run(system, alloc, arguments, input, out, errors),
-        Job::Best(arguments) => best::run(system, alloc, arguments, input, out, errors),
-        Job::Compare(arguments) => compare::run(system, alloc, arguments, out, errors),
-        Job::Page(arguments) => page::run(system, alloc, arguments, input, out, errors),
+        Job::Files(files) => { run_file_job(system, alloc, files, to_terminal, input, out, errors) }
         Job::Serve(arguments) => serving::run(rt, alloc, arguments, out, errors),
         Job::Put(arguments) => {
             let wire = &mut network.wire(alloc);

@@ -3,16 +3,17 @@
 ghost use Rattle.std.specs.Prelude.{◌≡◌, [], ◌∷◌, codes, None, true, false};
 ghost use Rattle.clap.specs.declared.error.kind.ErrorKind.TheVariants.{DisplayVersion};
 ghost use Rattle.tws_tool.specs.CommandLine.{AskFor, AskWhy};
-ghost use Rattle.tws_tool.specs.declared.job.Job.TheVariants.{Pack, Serve, Show};
+ghost use Rattle.file_commands.specs.declared.file_job.FileJob.TheVariants.{Pack, Show};
+ghost use Rattle.tws_tool.specs.declared.job.Job.TheVariants.{Files, Serve};
 ghost use Rattle.command_line.specs.declared.source.Source.TheVariants.{Standard};
 
 /// What these arguments ask for: `show`, `show --moves`, `show --csv`, `pack -`, `serve`, `serve` with a port and turns,
 /// `--version` and `-V`.
 pub fn words_of_commands()
-    ensures show { AskFor (codes "show" ∷ []) (Show (record { source = Standard; moves = false; csv = false })) }
-    ensures moves { AskFor (codes "show" ∷ codes "--moves" ∷ []) (Show (record { source = Standard; moves = true; csv = false })) }
-    ensures csv { AskFor (codes "show" ∷ codes "--csv" ∷ []) (Show (record { source = Standard; moves = false; csv = true })) }
-    ensures pack { AskFor (codes "pack" ∷ codes "-" ∷ []) (Pack (record { source = Standard })) }
+    ensures show { AskFor (codes "show" ∷ []) (Files (Show (record { source = Standard; moves = false; csv = false; output = None }))) }
+    ensures moves { AskFor (codes "show" ∷ codes "--moves" ∷ []) (Files (Show (record { source = Standard; moves = true; csv = false; output = None }))) }
+    ensures csv { AskFor (codes "show" ∷ codes "--csv" ∷ []) (Files (Show (record { source = Standard; moves = false; csv = true; output = None }))) }
+    ensures pack { AskFor (codes "pack" ∷ codes "-" ∷ []) (Files (Pack (record { source = Standard; output = None }))) }
     ensures serve { AskFor (codes "serve" ∷ []) (Serve (record { port = 6969; turns = 1000000000; per_host = 32; limit = 33553919; address = None; dir = None; log = false; history = None })) }
     ensures counted { AskFor (codes "serve" ∷ codes "--port" ∷ codes "80" ∷ codes "--turns=5" ∷ []) (Serve (record { port = 80; turns = 5; per_host = 32; limit = 33553919; address = None; dir = None; log = false; history = None })) }
     ensures version { AskWhy (codes "--version" ∷ []) DisplayVersion }

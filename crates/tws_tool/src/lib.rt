@@ -25,8 +25,8 @@ pub use command_line::{
     INPUT_READS, JobFault, Source, ToolFault, VERSION, report_arguments, report_streams,
 };
 pub use file_commands::{
-    BestArguments, CompareArguments, PageArguments, WithoutArguments, run_best, run_compare,
-    run_page, run_without,
+    BestArguments, CompareArguments, FileJob, PageArguments, WithoutArguments, run_best,
+    run_compare, run_page, run_without,
 };
 pub use job::Job;
 pub use laws::words_of_commands;

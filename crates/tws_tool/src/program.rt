@@ -34,23 +34,35 @@ fn run_answer<
     rt: &P,
     alloc: Global,
     job: &Result<Job, JobFault>,
+    to_terminal: bool,
     input: &mut R,
     out: &mut W,
     errors: &mut E,
 ) -> u8
-    ensures ran { JobRuns (record { bytes_of = S.bytes_of system.old; drafted_of = S.drafted_of system.old; host_of = S.host_of system.old }) (S.bytes_of system.new) (input.new ≡ input.old) (N.first_calls network.old) job.now result (R.remaining input.old) (R.remaining input.new) (W.contents out.old) (W.contents out.new) }
+    ensures ran { JobRuns to_terminal (record { bytes_of = S.bytes_of system.old; drafted_of = S.drafted_of system.old; host_of = S.host_of system.old }) (S.bytes_of system.new) (input.new ≡ input.old) (out.new ≡ out.old) (N.first_calls network.old) job.now result (R.remaining input.old) (R.remaining input.new) (W.contents out.old) (W.contents out.new) }
     ensures usage { result ≡ 1 → (input.new ≡ input.old) × (out.new ≡ out.old) }
     ensures status { result ≤ 4 }
     ensures unreadable { result ≡ 3 → out.new ≡ out.old }
     ensures silent { result ≡ 0 → errors.new ≡ errors.old }
 {
     match job {
-        Ok(job) => run_job(system, network, *rt, alloc, job, input, out, errors),
+        Ok(job) => run_job(
+            system,
+            network,
+            *rt,
+            alloc,
+            job,
+            to_terminal,
+            input,
+            out,
+            errors,
+        ),
         Err(fault) => report_job_fault(alloc, fault, out, errors),
     }
 }
 
-/// Does what the arguments ask for, and returns the exit status. The first argument is the program's name. The files of
+/// Does what the arguments ask for, and returns the exit status. The first argument is the program's name; `to_terminal` says
+/// whether `out` is a terminal. The files of
 /// `system` are read and replaced, and `put` and `get` go over a wire of `network` to the hosts that `system` finds; the
 /// folder and the sockets of `serve` are the runtime's.
 ///
@@ -70,12 +82,13 @@ pub fn run_words_with<
     rt: &P,
     alloc: Global,
     words: &[String],
+    to_terminal: bool,
     input: &mut R,
     out: &mut W,
     errors: &mut E,
 ) -> u8
     // The job is the one that the arguments ask for, with the files that they name.
-    ensures ran { (job : Result Job JobFault) × AnswersWords (map string_bytes words.now) job × JobRuns (record { bytes_of = S.bytes_of system.old; drafted_of = S.drafted_of system.old; host_of = S.host_of system.old }) (S.bytes_of system.new) (input.new ≡ input.old) (N.first_calls network.old) job result (R.remaining input.old) (R.remaining input.new) (W.contents out.old) (W.contents out.new) }
+    ensures ran { (job : Result Job JobFault) × AnswersWords (map string_bytes words.now) job × JobRuns to_terminal (record { bytes_of = S.bytes_of system.old; drafted_of = S.drafted_of system.old; host_of = S.host_of system.old }) (S.bytes_of system.new) (input.new ≡ input.old) (out.new ≡ out.old) (N.first_calls network.old) job result (R.remaining input.old) (R.remaining input.new) (W.contents out.old) (W.contents out.new) }
     // A usage error leaves input and output untouched, and an unreadable file the output.
     ensures usage { result ≡ 1 → (input.new ≡ input.old) × (out.new ≡ out.old) }
     ensures status { result ≤ 4 }
@@ -88,6 +101,7 @@ pub fn run_words_with<
         rt,
         alloc,
         &job_of(alloc, words),
+        to_terminal,
         input,
         out,
         errors,
@@ -106,12 +120,13 @@ pub fn run_words<
     rt: &P,
     alloc: Global,
     words: &[String],
+    to_terminal: bool,
     terminal: Option<T>,
     input: &mut R,
     out: &mut W,
     errors: &mut E,
 ) -> u8
-    ensures ran { (job : Result Job JobFault) × AnswersWords (map string_bytes words.now) job × JobRuns (record { bytes_of = λ name. None; drafted_of = λ name. None; host_of = λ name. None }) (λ name. None) (input.new ≡ input.old) None job result (R.remaining input.old) (R.remaining input.new) (W.contents out.old) (W.contents out.new) }
+    ensures ran { (job : Result Job JobFault) × AnswersWords (map string_bytes words.now) job × JobRuns to_terminal (record { bytes_of = λ name. None; drafted_of = λ name. None; host_of = λ name. None }) (λ name. None) (input.new ≡ input.old) (out.new ≡ out.old) None job result (R.remaining input.old) (R.remaining input.new) (W.contents out.old) (W.contents out.new) }
     ensures usage { result ≡ 1 → (input.new ≡ input.old) × (out.new ≡ out.old) }
     ensures status { result ≤ 4 }
     ensures unreadable { result ≡ 3 → out.new ≡ out.old }
@@ -124,6 +139,7 @@ pub fn run_words<
         rt,
         alloc,
         words,
+        to_terminal,
         input,
         out,
         errors,

@@ -10,4 +10,5 @@ returns c =
       mine_is = sym (rw c.in-Some.is at c.in_ok-mine.ensures);
       theirs_is = sym (rw c.in-Some-2.is at c.in_ok-theirs.ensures);
       better_is = ((λ e. c.get_flag-better.ensures.value (text ∙ e)), (λ e. c.get_flag-better.ensures.other (text ∙ e)), (λ e. c.get_flag-better.ensures.none (text ∙ e)));
+      output_is = c.in_ok-output.ensures;
     }

@@ -11,4 +11,5 @@ returns c =
       source_is = c.in_ok-source.ensures;
       moves_are = ((λ e. c.get_flag-moves.ensures.value (text ∙ e)), (λ e. c.get_flag-moves.ensures.other (text ∙ e)), (λ e. c.get_flag-moves.ensures.none (text ∙ e)));
       csv_is = ((λ e. c.get_flag-csv.ensures.value (csv ∙ e)), (λ e. c.get_flag-csv.ensures.other (csv ∙ e)), (λ e. c.get_flag-csv.ensures.none (csv ∙ e)));
+      output_is = c.in_ok-output.ensures;
     }

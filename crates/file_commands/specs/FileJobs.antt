@@ -1,0 +1,57 @@
+-- The list of the commands on files: which job each asks for, and what each job did. A command is defined in the file of its
+-- name, here or in `show_commands`.
+use Rattle.std.specs.Prelude.{◌≡◌, ℕ, ◌&&◌, Bool, false, List, Option, option_map, string_bytes}
+use Rattle.clap.specs.Words.{Row, Text}
+use Rattle.show_commands.specs.Output.{WritesTo}
+use Rattle.show_commands.specs.Show.{AsksToShow, ShowRan, show_name}
+use Rattle.show_commands.specs.Pack.{AsksToPack, PackRan, pack_name}
+use Rattle.file_commands.specs.declared.file_job.FileJob.{FileJob}
+use Rattle.file_commands.specs.declared.file_job.FileJob.TheVariants as job
+use Rattle.file_commands.specs.Without.{AsksForWithout, WithoutRan, without_name}
+use Rattle.file_commands.specs.Best.{AsksForBest, BestRan, best_name}
+use Rattle.file_commands.specs.Compare.{AsksToCompare, CompareRan, compare_name}
+use Rattle.file_commands.specs.Page.{AsksForPage, PageRan, page_name}
+
+-- the command of this name, with what was found for its arguments, asks for the job
+abbrev pub AsksForFileJob : Text × List Row → FileJob → Type 0
+AsksForFileJob command (job.Show arguments) = (command.0 ≡ show_name) × AsksToShow command.1 arguments
+AsksForFileJob command (job.Pack arguments) = (command.0 ≡ pack_name) × AsksToPack command.1 arguments
+AsksForFileJob command (job.Without arguments) = (command.0 ≡ without_name) × AsksForWithout command.1 arguments
+AsksForFileJob command (job.Best arguments) = (command.0 ≡ best_name) × AsksForBest command.1 arguments
+AsksForFileJob command (job.Compare arguments) = (command.0 ≡ compare_name) × AsksToCompare command.1 arguments
+AsksForFileJob command (job.Page arguments) = (command.0 ≡ page_name) × AsksForPage command.1 arguments
+
+-- What a job did to the writer of its text, by its exit status: 0 if all was done, 1 for a usage error, 2 if reading, writing
+-- or memory failed, 3 for an unreadable solution file. Given are what is known of the bytes of the file with each name, and
+-- what holds if standard input was not read; then what standard input had and has left, and the output before and after.
+abbrev pub FileJobRan : (bytes_of : List ℕ → Option (List ℕ)) → (Unread : Type 0) → FileJob → (status : ℕ) → (had left old new : Option (List ℕ)) → Type 0
+FileJobRan bytes_of Unread (job.Show arguments) status had left old new = ShowRan bytes_of Unread arguments status had left old new
+FileJobRan bytes_of Unread (job.Pack arguments) status had left old new = PackRan bytes_of Unread arguments status had left old new
+FileJobRan bytes_of Unread (job.Without arguments) status had left old new = WithoutRan bytes_of Unread arguments status had left old new
+FileJobRan bytes_of Unread (job.Best arguments) status had left old new = BestRan bytes_of Unread arguments status had left old new
+FileJobRan bytes_of Unread (job.Compare arguments) status had left old new = Unread × CompareRan bytes_of arguments status old new
+FileJobRan bytes_of Unread (job.Page arguments) status had left old new = PageRan bytes_of Unread arguments status had left old new
+
+-- the file that a job is to write, if one was named
+abbrev pub output_of : FileJob → Option Text
+output_of (job.Show arguments) = option_map string_bytes arguments.output
+output_of (job.Pack arguments) = option_map string_bytes arguments.output
+output_of (job.Without arguments) = option_map string_bytes arguments.output
+output_of (job.Best arguments) = option_map string_bytes arguments.output
+output_of (job.Compare arguments) = option_map string_bytes arguments.output
+output_of (job.Page arguments) = option_map string_bytes arguments.output
+
+-- whether a job would write a solution file to a terminal, if it wrote to one
+abbrev pub spills : (to_terminal : Bool) → FileJob → Bool
+spills to_terminal (job.Show arguments) = false
+spills to_terminal (job.Pack arguments) = to_terminal
+spills to_terminal (job.Without arguments) = to_terminal
+spills to_terminal (job.Best arguments) = to_terminal
+spills to_terminal (job.Compare arguments) = arguments.better && to_terminal
+spills to_terminal (job.Page arguments) = false
+
+-- What a job did, given also whether standard output is a terminal, what is known of a draft for each file, and of the files
+-- afterwards, and what holds if nothing was written to standard output.
+abbrev pub FileJobRuns : (to_terminal : Bool) → (bytes_of drafted_of now : List ℕ → Option (List ℕ)) → (Unread Unwritten : Type 0) → FileJob → (status : ℕ) → (had left old new : Option (List ℕ)) → Type 0
+FileJobRuns to_terminal bytes_of drafted_of now Unread Unwritten job status had left old new =
+    WritesTo (output_of job) (spills to_terminal job) (λ s o n. FileJobRan bytes_of Unread job s had left o n) Unread Unwritten status drafted_of bytes_of now old new
