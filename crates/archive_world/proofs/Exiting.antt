@@ -5,7 +5,6 @@ use Rattle.std.proofs.Common.{refl, ap, sym, ◌∙◌, subst, inl}
 use Rattle.std.proofs.lemmas.Bool.{true≢false}
 use Rattle.tftp_packet.specs.declared.endpoint.Endpoint.{Endpoint}
 use Rattle.archive_client.specs.Client.{Operation, Client, is_too_long}
-use Rattle.tws_file.specs.declared.«ruleset».Ruleset.TheVariants.{Lynx, Ms}
 use Rattle.archive_table.specs.Table.{Maps, Taken, Grant, all, IsMerged, transfer_at, empty_maps}
 use Rattle.archive_table.specs.Keeper.{Keeping}
 use Rattle.archive_world.specs.declared.event_fault.EventFault.{EventFault}
@@ -13,14 +12,12 @@ use Rattle.archive_world.specs.declared.event_fault.EventFault.TheVariants as fa
 use Rattle.archive_model.specs.World.{Event, begin, deliver, client_times_out, server_times_out, stray, restart, unknown_keep, WorldStep, World, Datagram, has_begun, client_at, client_waits, restarts, taken_with, event_happens, HasMerged, MayHappen}
 use Rattle.archive_theorem.specs.Headline.{HasOwnPorts}
 use Rattle.archive_theorem.specs.Reuse.{IsUnused}
-use Rattle.archive_model.specs.Restarts.{HasKept}
+use Rattle.archive_model.specs.Restarts.{LoadsAs}
 use Rattle.archive_theorem.specs.Traces.{comes}
-use Rattle.tws_best.specs.Best.{IsCollected}
 use Rattle.archive_world.specs.Replays.{Makes}
 use Rattle.archive_world.specs.Exits.{StaysThere, Comes}
 use Rattle.archive_model.proofs.Growing.{step-extends}
 use Rattle.archive_theorem.proofs.Server_Port.{run_same}
-use Rattle.tws_best.proofs.Collections.{best-collected}
 use Rattle.archive_theorem.proofs.Headline_Remains.{Remain, begins_remain, waits_remain, strays_remain, timeout_leaves}
 use Rattle.archive_theorem.proofs.Port_Tests.{begin-keeps_own, stray-keeps_own}
 use Rattle.archive_theorem.proofs.Headline_Total.{not_more}
@@ -236,14 +233,12 @@ module _ (w v : World) (reported now : Option (List Keeping)) (same : now ≡ re
 
   -- the result of the call for a restart
   pub restart-comes : v.home ≡ w.home → v.server.request ≡ w.server.request →
-      ((log : List Keeping) → reported ≡ Some log → HasKept log w.server.maps → IsCollected w.server.maps.lynx → IsCollected
-      w.server.maps.ms → v ≡ restarts w) →
+      ((log : List Keeping) → reported ≡ Some log → LoadsAs log w.server.maps → v ≡ restarts w) →
       Comes (Ok tt) restart reported now w v
   restart-comes home request made = (
     (home, request),
     λ ready. let has = ready refl in
-        restart_makes (made has.log has.reports has.kept (best-collected Lynx _ w.server.maps.lynx has.best.lynx)
-        (best-collected Ms _ w.server.maps.ms has.best.ms)),
+        restart_makes (made has.log has.reports has.loads),
   )
 
 -- the same for an event that equals this one

@@ -6,4 +6,5 @@ pub mod Exiting
 pub mod Delivering
 pub mod Refusing
 pub mod Unknowns
+pub mod Beginnings
 pub mod Replaying

@@ -1,29 +1,32 @@
 -- A list of events that happen one by one: one more of them, and how a replay ends.
-use Rattle.std.specs.Prelude.{◌≡◌, ◌⊎◌, ℕ, ◌+◌, ◌<◌, true, List, [], ◌∷◌, ◌++◌, take, length, slice_get, Option, Some, Ok, Err}
+use Rattle.std.specs.Prelude.{◌≡◌, ◌≢◌, ◌⊎◌, ℕ, ◌+◌, ◌<◌, ◌≤◌, true, List, [], ◌∷◌, ◌++◌, take, length, slice_get, Option, Some, Ok, Err}
 use Rattle.std.specs.Option.{option_map}
 use Rattle.std.proofs.Common.{refl, ap, sym, ◌∙◌, subst, inl, inr, arith}
 use Rattle.std.proofs.Math.ListN.{get_or}
-use Rattle.std.proofs.lemmas.List.{map_push, map_more, take-map, length-map}
+use Rattle.std.proofs.lemmas.List.{map_push, map_more, take-map, take_all, length-map}
 use Rattle.std.proofs.lemmas.Option.{slice_get-map, slice_get-get_or}
-use Rattle.archive_table.specs.Keeper.{Keeping}
+use Rattle.tftp_packet.specs.declared.endpoint.Endpoint.{Endpoint}
+use Rattle.tws_file.specs.declared.«ruleset».Ruleset.TheVariants.{Lynx, Ms}
+use Rattle.archive_table.specs.Keeper.{Keeping, IsLoaded}
+use Rattle.archive_table.specs.declared.load_fault.LoadFault.{LoadFault}
 use Rattle.archive_world.specs.declared.event.Event as events
 use Rattle.archive_world.specs.declared.event_fault.EventFault.{EventFault}
 use Rattle.archive_world.specs.declared.event_fault.EventFault.TheVariants as fault
 use Rattle.archive_world.specs.declared.world_fault.WorldFault.{WorldFault}
 use Rattle.archive_world.specs.declared.world_fault.WorldFault.TheVariants as world
-use Rattle.archive_model.specs.World.{Event, begin, deliver, client_times_out, server_times_out, stray, restart, unknown_keep, WorldStep, World, RunFrom, empty_origin, server_endpoint, start, happens, run_from, run, HasMerged, MayHappen}
-use Rattle.archive_theorem.specs.Headline.{HasOwnPorts, Headline}
-use Rattle.archive_model.specs.Restarts.{RunKeeps}
+use Rattle.archive_model.specs.World.{Event, begin, deliver, client_times_out, server_times_out, stray, restart, unknown_keep, WorldStep, World, Origin, RunFrom, server_endpoint, first_world, last_world, happens, run_from, HasMerged, MayHappen}
+use Rattle.archive_theorem.specs.Headline.{HasOwnPorts, ClientsHeadline}
+use Rattle.archive_model.specs.Restarts.{RunKeeps, LoadsAs}
 use Rattle.archive_world.specs.View.{event_of, events_of}
 use Rattle.archive_world.specs.Outcomes.{Outcome, outcome_of}
-use Rattle.archive_world.specs.Replays.{KeepsOnly, HaveKept, IsDue, AllDue, HasHappened, Makes, starts_again, IsReady, HasRun, IsBadAt, IsReusedAt, IsNotKeptAt, IsNotLoadedAt, HasStopped}
-use Rattle.archive_world.specs.Exits.{KeeperHas, MakesKept, LoadsNone, Comes, world_fault_of, ReplayEnds}
+use Rattle.archive_world.specs.Replays.{BeginsFrom, KeepsOnly, HaveKept, IsDue, AllDue, HasHappened, Makes, starts_again, IsReady, HasRun, IsBadAt, IsReusedAt, IsNotKeptAt, IsNotLoadedAt, HasStopped}
+use Rattle.archive_world.specs.Exits.{BeginsAt, KeeperHas, MakesKept, LoadsNone, Comes, world_fault_of, ReplayEnds}
 use Rattle.archive_theorem.proofs.Headline_Collections.{last-best}
-use Rattle.archive_theorem.proofs.Headline_Clients.{run-headline}
+use Rattle.archive_theorem.proofs.Headline_Clients.{run-clients}
 use Rattle.archive_theorem.proofs.Event_Happens.{run-append, may-append}
 use Rattle.archive_model.proofs.Places.{Has-contains}
-use Rattle.archive_theorem.proofs.Keeper_Runs.{has-kept}
-use Rattle.archive_theorem.proofs.Keeper_Loads.{start-kept}
+use Rattle.archive_theorem.proofs.Keeper_Runs.{last-loads}
+use Rattle.archive_theorem.proofs.Claim_Owns.{own-each}
 use Rattle.archive_theorem.proofs.Port_Tests.{start-own}
 use Rattle.archive_theorem.proofs.Trace_Runs.{merged_append}
 
@@ -50,38 +53,57 @@ run_keeps (x ∷ xs) w before last keeps =
 -- ---- what has happened
 
 -- before the first event nothing has happened
-pub happened-start : (reported : Option (List Keeping)) (w : World) → w ≡ start → HasHappened [] reported reported w
-happened-start reported w is =
+pub happened-start : (reported : Option (List Keeping)) (w : World) → BeginsAt reported w → HasHappened [] reported reported w
+happened-start reported w (o, begins, is) =
     record {
+      origin = o;
+      begins = begins;
       steps = [];
       events_are = refl;
       is = is;
       may = tt;
-      own = subst HasOwnPorts (sym is) (start-own (empty_origin server_endpoint));
+      own = subst HasOwnPorts (sym is) (start-own o);
       merged = tt;
       due = tt;
       keeps = λ before reports. (before, reports, refl);
     }
 
--- a keeper that had an empty log has what the server has
-happened_kept : (events : List Event) (reported now : Option (List Keeping)) (w : World) → reported ≡ Some [] →
+-- the server is at its endpoint, with its request port
+pub begins-home : (reported : Option (List Keeping)) (w : World) → BeginsAt reported w → w.home ≡ server_endpoint
+begins-home reported w (o, begins, is) = ap (λ (x : World). x.home) is ∙ begins.home
+
+pub begins-request : (reported : Option (List Keeping)) (w : World) → BeginsAt reported w → w.server.request ≡ server_endpoint.port
+begins-request reported w (o, begins, is) = ap (λ (x : World). x.server.request) is ∙ ap (λ (e : Endpoint). e.port) begins.home
+
+-- what a keeper with a log has is loaded as the first collections
+begins_loads : (o : Origin) (first : List Keeping) → BeginsFrom (Some first) o → LoadsAs first o.maps
+begins_loads o first begins =
+    record {
+      lynx = subst (λ (text : Option (List ℕ)). IsLoaded Lynx text o.maps.lynx) begins.has_lynx begins.lynx_is;
+      ms = subst (λ (text : Option (List ℕ)). IsLoaded Ms text o.maps.ms) begins.has_ms begins.ms_is;
+    }
+
+-- a keeper that had a log has what the server has
+happened_kept : (events : List Event) (reported now : Option (List Keeping)) (w : World) → (first : List Keeping) × (reported ≡ Some first) →
     HasHappened events reported now w → KeeperHas now w
-happened_kept events reported now w none h =
-    let o = empty_origin server_endpoint in
+happened_kept events reported now w (first, reports) h =
+    let o = h.origin in
     let r : RunFrom o = record { steps = h.steps; merged = h.merged } in
-    let has = h.keeps [] none in
-    let there : KeeperHas now (run h.steps) = record {
+    let has = h.keeps first reports in
+    let loads = begins_loads o first (subst (λ (x : Option (List Keeping)). BeginsFrom x o) reports h.begins) in
+    let there : KeeperHas now (last_world r) = record {
       log = has.0;
       reports = has.1;
-      kept = has-kept o r [] has.0 (run_keeps h.steps start [] has.0 has.2) start-kept;
+      loads = last-loads o r first has.0 (run_keeps h.steps (first_world o) first has.0 has.2) loads;
       best = last-best o r;
     } in
     subst (KeeperHas now) (sym h.is) there
 
 -- the headline holds for what has happened
-happened_headline : (events : List Event) (reported now : Option (List Keeping)) (w : World) → HasHappened events reported now w → Headline w
+happened_headline : (events : List Event) (reported now : Option (List Keeping)) (w : World) (h : HasHappened events reported now w) →
+    ClientsHeadline h.origin w
 happened_headline events reported now w h =
-    subst Headline (sym h.is) (run-headline server_endpoint (record { steps = h.steps; merged = h.merged }) (subst HasOwnPorts h.is h.own))
+    subst (ClientsHeadline h.origin) (sym h.is) (run-clients h.origin (record { steps = h.steps; merged = h.merged }))
 
 -- one more
 module _ (events : List Event) (e : Event) (reported now after : Option (List Keeping)) (w v : World)
@@ -94,34 +116,41 @@ module _ (events : List Event) (e : Event) (reported now after : Option (List Ke
   abbrev steps : List WorldStep
   steps = h.steps ++ step ∷ []
 
+  -- the world at which they began
+  abbrev first : World
+  first = first_world h.origin
+
   -- they lead to its world
-  run_more : v ≡ run steps
-  run_more = m.is ∙ ap (λ (x : World). happens step x) h.is ∙ sym (run-append h.steps (step ∷ []) start)
+  run_more : v ≡ run_from steps first
+  run_more = m.is ∙ ap (λ (x : World). happens step x) h.is ∙ sym (run-append h.steps (step ∷ []) first)
 
   -- what the keeper has after it
-  keeps_last : (first last : List Keeping) → KeepsOnly e m.grant w v first last → KeepsOnly e m.grant (run h.steps) (happens step (run h.steps)) first last
-  keeps_last first last keeps =
-      subst (λ (x : World). KeepsOnly e m.grant x (happens step x) first last) h.is
-      (subst (λ (y : World). KeepsOnly e m.grant w y first last) m.is keeps)
+  keeps_last : (mid last : List Keeping) → KeepsOnly e m.grant w v mid last →
+      KeepsOnly e m.grant (run_from h.steps first) (happens step (run_from h.steps first)) mid last
+  keeps_last mid last keeps =
+      subst (λ (x : World). KeepsOnly e m.grant x (happens step x) mid last) h.is
+      (subst (λ (y : World). KeepsOnly e m.grant w y mid last) m.is keeps)
 
   -- and after all of them
-  keeps_more : (before : List Keeping) → reported ≡ Some before → (log : List Keeping) × (after ≡ Some log) × HaveKept steps start before log
+  keeps_more : (before : List Keeping) → reported ≡ Some before → (log : List Keeping) × (after ≡ Some log) × HaveKept steps first before log
   keeps_more before reports =
       let has = h.keeps before reports in
       let then = m.keeps has.0 has.1 in
-      (then.0, then.1, keeps_append h.steps (step ∷ []) start before has.0 then.0 has.2 (then.0, keeps_last has.0 then.0 then.2, refl))
+      (then.0, then.1, keeps_append h.steps (step ∷ []) first before has.0 then.0 has.2 (then.0, keeps_last has.0 then.0 then.2, refl))
 
   -- so one more event has happened
   happened_more : HasHappened (events ++ e ∷ []) reported after v
   happened_more =
       record {
+        origin = h.origin;
+        begins = h.begins;
         steps = steps;
         events_are = map_push (λ (s : WorldStep). s.event) h.steps step ∙ ap (λ (es : List Event). es ++ e ∷ []) h.events_are;
         is = run_more;
-        may = may-append h.steps (step ∷ []) start h.may (subst (MayHappen e) h.is m.may, tt);
+        may = may-append h.steps (step ∷ []) first h.may (subst (MayHappen e) h.is m.may, tt);
         own = m.own h.own;
-        merged = merged_append h.steps (step ∷ []) start h.merged (subst (HasMerged step) h.is m.merged, tt);
-        due = due_append h.steps (step ∷ []) start h.due (subst (IsDue e m.grant) h.is m.due, tt);
+        merged = merged_append h.steps (step ∷ []) first h.merged (subst (HasMerged step) h.is m.merged, tt);
+        due = due_append h.steps (step ∷ []) first h.due (subst (IsDue e m.grant) h.is m.due, tt);
         keeps = keeps_more;
       }
 
@@ -150,15 +179,15 @@ module _ {A : Type 0} (es : List (events.Event A)) (i : ℕ) (x : events.Event A
 
   module _ (reported now after : Option (List Keeping)) (w v : World) (ready : IsReady reported (events_of es))
       (so_far : HasHappened (events_of (take i es)) reported now w) where
-    none_reported : starts_again e ≡ true → reported ≡ Some []
-    none_reported starts = ready e (Has-contains (events_of es) e (record { position = i; is = there_is })) starts
+    log_reported : starts_again e ≡ true → (log : List Keeping) × (reported ≡ Some log)
+    log_reported starts = ready e (Has-contains (events_of es) e (record { position = i; is = there_is })) starts
 
     -- the event was made
     made_more : (u : World) → MakesKept e now after w u → HasHappened (events_of (take (i + 1) es)) reported after u
     made_more u makes =
         subst (λ (l : List Event). HasHappened l reported after u) (sym more_is)
         (happened_more (events_of (take i es)) e reported now after w u so_far
-        (makes (λ is. happened_kept (events_of (take i es)) reported now w (none_reported is) so_far)))
+        (makes (λ is. happened_kept (events_of (take i es)) reported now w (log_reported is) so_far)))
 
     -- its call succeeded
     one_more : Comes (Ok tt) e now after w v → HasHappened (events_of (take (i + 1) es)) reported after v
@@ -261,12 +290,27 @@ module _ {A : Type 0} (es : List (events.Event A)) (i : ℕ) (x : events.Event A
       subst (λ (y : WorldFault). ReplayEnds (Err y) (events_of es) reported after v) (sym is)
       (fails_at es i x within at reported now after w v ready (so_far ready) f comes)
 
+-- at the end of the list all have happened
+pub all-made : {A : Type 0} (es : List (events.Event A)) (i : ℕ) (reported now : Option (List Keeping)) (w : World) → length es ≤ i →
+    (IsReady reported (events_of es) → HasHappened (events_of (take i es)) reported now w) → IsReady reported (events_of es) →
+    HasHappened (events_of es) reported now w
+all-made {A} es i reported now w past so_far ready =
+    subst (λ (l : List (events.Event A)). HasHappened (events_of l) reported now w) (take_all i es past) (so_far ready)
+
 -- ---- the end of a replay
 
 module _ (events : List Event) (reported now : Option (List Keeping)) (v : World) where
   -- if all events have happened, the run has its outcome
   pub ran-to : (o : Outcome) → o ≡ outcome_of v → HasHappened events reported now v → HasRun events reported now o
-  ran-to o is h = record { world = v; happened = h; is = is; headline = happened_headline events reported now v h }
+  ran-to o is h =
+      let all = happened_headline events reported now v h in
+      record {
+        world = v;
+        happened = h;
+        is = is;
+        headline = all;
+        clients = λ e has. all.client e has (own-each v h.own e has);
+      }
 
   -- so the first events have, as many as there are
   pub stopped-after : take (length events) events ≡ events → HasHappened events reported now v → HasStopped events reported now
@@ -302,3 +346,22 @@ module _ (events : List Event) (reported now : Option (List Keeping)) (v : World
     -- memory ran out
     pub stopped-by : f ≡ world.Memory → IsReady reported events → HasStopped events reported now
     stopped-by is ready = ends_by world.Memory is ready
+
+-- ---- after a start that has left the keeper's list as it was
+
+-- what holds by what the keeper has after it holds by what it had
+pub by-start : (events : List Event) (reported loaded : Option (List Keeping)) → loaded ≡ reported →
+    (P : Option (List Keeping) → Type 0) → (IsReady loaded events → P loaded) → IsReady reported events → P reported
+by-start events reported loaded same P holds = subst (λ (r : Option (List Keeping)). IsReady r events → P r) same holds
+
+-- no fault of an event is that of the start
+no_start : (fault : EventFault) (index : ℕ) (why : LoadFault) → world_fault_of fault index ≢ world.NotStarted why
+no_start fault.Bad index why is = absurd cc
+no_start fault.Reused index why is = absurd cc
+no_start fault.NotKept index why is = absurd cc
+no_start fault.NotLoaded index why is = absurd cc
+no_start fault.Memory index why is = absurd cc
+
+-- nor is the replay's, given that of an event
+pub no-start : (r : WorldFault) (fault : EventFault) (index : ℕ) (why : LoadFault) → r ≡ world_fault_of fault index → r ≢ world.NotStarted why
+no-start r fault index why is = subst (λ (x : WorldFault). x ≢ world.NotStarted why) (sym is) (no_start fault index why)

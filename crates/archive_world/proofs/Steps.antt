@@ -4,10 +4,10 @@ use Rattle.std.proofs.Common.{sym, ap, subst, ◌∙◌}
 use Rattle.archive_table.specs.Table.{Table, Transfer, Step, Taken, Grant, all, Merges, table_datagram}
 use Rattle.archive_table.specs.Table as table
 use Rattle.archive_table.specs.Keeper.{HasLoaded, Keeping, StepKeeps, LoadedFrom}
-use Rattle.tws_best.specs.Best.{Collected, IsCollected}
+use Rattle.tws_best.specs.Best.{Collected}
 use Rattle.tws_file.specs.declared.«ruleset».Ruleset.TheVariants.{Lynx, Ms}
-use Rattle.archive_model.specs.Restarts.{HasKept}
-use Rattle.archive_theorem.proofs.Keeper_Loads.{loads-the_same}
+use Rattle.archive_model.specs.Restarts.{LoadsAs}
+use Rattle.archive_theorem.proofs.Keeper_Loads.{loads-as}
 use Rattle.archive_model.specs.World.{Datagram, World, after_transfer, restarts}
 use Rattle.archive_world.specs.Inside.{ReceivesAtPort}
 
@@ -48,11 +48,11 @@ at-port d received before after old seen new d-is old-is grant server step serve
     rw (d-is, old-is, new-is) (at-port-itself received before after seen grant server step server-is step-is merges keeps)
 
 -- what is loaded is what the server had
-pub restarts-same : (log : List Keeping) (old new : World) → HasKept log old.server.maps → IsCollected old.server.maps.lynx →
-    IsCollected old.server.maps.ms → LoadedFrom Lynx (Some log) new.server.maps.lynx → LoadedFrom Ms (Some log) new.server.maps.ms →
+pub restarts-same : (log : List Keeping) (old new : World) → LoadsAs log old.server.maps →
+    LoadedFrom Lynx (Some log) new.server.maps.lynx → LoadedFrom Ms (Some log) new.server.maps.ms →
     new ≡ record old { server = record { request = old.server.request; maps = new.server.maps; live = [] } } → new ≡ restarts old
-restarts-same log old new kept lynx ms from-lynx from-ms is =
-    let same = loads-the_same log old.server.maps kept lynx ms new.server.maps.lynx new.server.maps.ms from-lynx from-ms in
+restarts-same log old new loads from-lynx from-ms is =
+    let same = loads-as log old.server.maps loads new.server.maps.lynx new.server.maps.ms from-lynx from-ms in
     is
     ∙ ap (λ (c : Collected). record old { server = record { request = old.server.request; maps = record { lynx = c; ms = new.server.maps.ms }; live = [] } })
     same.0
@@ -63,12 +63,11 @@ restarts-same log old new kept lynx ms from-lynx from-ms is =
 pub restarted : {T E : Type 0} (r : Result T E) (old new : World) (reported : Option (List Keeping)) →
     OnOk r (HasLoaded old.server.request reported new.server) → OnOk r (new ≡ record old { server = new.server }) →
     OnOk r
-    ((log : List Keeping) → reported ≡ Some log → HasKept log old.server.maps → IsCollected old.server.maps.lynx → IsCollected
-    old.server.maps.ms → new ≡ restarts old)
-restarted (Ok x) old new reported loaded is = λ log reports kept lynx ms.
+    ((log : List Keeping) → reported ≡ Some log → LoadsAs log old.server.maps → new ≡ restarts old)
+restarted (Ok x) old new reported loaded is = λ log reports loads.
     let make : ℕ → List (ℕ × Transfer) → Table = λ p live. record { request = p; maps = new.server.maps; live = live } in
     let server : make new.server.request new.server.live ≡ make old.server.request [] = (let port = loaded.port in let idle = loaded.idle in cc) in
-    restarts-same log old new kept lynx ms
+    restarts-same log old new loads
     (subst (λ (o : Option (List Keeping)). LoadedFrom Lynx o new.server.maps.lynx) reports loaded.lynx)
     (subst (λ (o : Option (List Keeping)). LoadedFrom Ms o new.server.maps.ms) reports loaded.ms)
     (is ∙ ap (λ (s : Table). record old { server = s }) server)

@@ -7,13 +7,13 @@ use Rattle.tftp_packet.specs.declared.out.Out.{Out}
 use Rattle.tftp_packet.specs.Refusal.{refusal_packet}
 use Rattle.tftp_packet.specs.declared.refusal.Refusal.TheVariants.{NotKept}
 use Rattle.tws_file.specs.declared.«ruleset».Ruleset.TheVariants.{Lynx, Ms}
-use Rattle.tws_best.specs.Best.{Collected, IsCollected}
+use Rattle.tws_best.specs.Best.{Collected}
 use Rattle.archive_table.specs.Table.{Table, Maps, Taken, Step, TableAnswer, Grant, all, no_memory, unkept, grant_of, out_from, transfer_at, table_datagram, IsMerged, Merges}
 use Rattle.archive_table.specs.Events.{Reported, made, IsDatagramEvent, TakesAs}
 use Rattle.archive_table.specs.Keeper.{Keeping, KeepsOne, KeepsMaps, RefusesKeep, StepKeeps}
 use Rattle.archive_table.proofs.Grants.{keeps_nothing}
 use Rattle.archive_model.specs.World.{Datagram, Event, World, WorldStep, server_endpoint, unknown_keep, after_transfer, net_with, wanted_at, wanted_of, wanted_by, ends, ends_if, ends_at, restarts, happens, HasMerged, MayEnd}
-use Rattle.archive_model.specs.Restarts.{HasKept}
+use Rattle.archive_model.specs.Restarts.{LoadsAs}
 use Rattle.archive_model.proofs.Sources.{wanted-completes}
 use Rattle.archive_theorem.specs.Headline.{HasOwnPorts}
 use Rattle.archive_theorem.proofs.Claim_Invariant.{AreBest}
@@ -21,7 +21,7 @@ use Rattle.archive_theorem.proofs.Headline_Remains.{TakesOrLeaves, found_takes}
 use Rattle.archive_theorem.proofs.Headline_Total.{not_more, one_last}
 use Rattle.tws_best.proofs.Collections.{best-collected}
 use Rattle.archive_theorem.proofs.Headline_Collections.{step-best}
-use Rattle.archive_theorem.proofs.Keeper_Loads.{step-stays_kept}
+use Rattle.archive_theorem.proofs.Keeper_Loads.{step-loads_as}
 use Rattle.archive_theorem.proofs.Keeper_Runs.{own-ruleset}
 use Rattle.archive_world.specs.declared.event_fault.EventFault.{EventFault}
 use Rattle.archive_world.specs.declared.event_fault.EventFault.TheVariants as fault
@@ -358,8 +358,7 @@ module _ (w v : World) (d : Datagram) (index : ℕ) (there : slice_get w.net ind
 
         -- the result of the calls if the server has loaded
         pub ends-comes : (now : Option (List Keeping)) → now ≡ after → v.home ≡ mid.home → v.server.request ≡ mid.server.request →
-            ((log : List Keeping) → after ≡ Some log → HasKept log mid.server.maps → IsCollected mid.server.maps.lynx → IsCollected
-            mid.server.maps.ms → v ≡ restarts mid) →
+            ((log : List Keeping) → after ≡ Some log → LoadsAs log mid.server.maps → v ≡ restarts mid) →
             Comes (Ok tt) event before now w v
         ends-comes now now_is home request loads = (
           (home ∙ e.home, request ∙ e.request),
@@ -369,8 +368,9 @@ module _ (w v : World) (d : Datagram) (index : ℕ) (there : slice_get w.net ind
               let best : AreBest mid.taken mid.server.maps =
               subst (λ (x : World). AreBest x.taken x.server.maps) (sym restarted_is) (step-best w step merged_by has.best) in
               let kept =
-              step-stays_kept all None w.server.maps mid.server.maps has.log last.0 last.2 (inl refl) (own-ruleset mid.taken mid.server.maps best) has.kept in
-              let same = loads last.0 last.1 kept (best-collected Lynx _ mid.server.maps.lynx best.lynx) (best-collected Ms _ mid.server.maps.ms best.ms) in
+              step-loads_as all None w.server.maps mid.server.maps has.log last.0 last.2 (inl refl) (own-ruleset mid.taken mid.server.maps best)
+              (best-collected Lynx _ mid.server.maps.lynx best.lynx) (best-collected Ms _ mid.server.maps.ms best.ms) has.loads in
+              let same = loads last.0 last.1 kept in
               subst (λ (x : World). Makes event before now w x) (sym same)
               (subst (λ (o : Option (List Keeping)). Makes event before o w (restarts mid)) (sym now_is) makes),
         )

@@ -6,17 +6,21 @@ use Rattle.archive_world.specs.declared.event_fault.EventFault.{EventFault}
 use Rattle.archive_world.specs.declared.event_fault.EventFault.TheVariants.{Bad, Reused, NotKept, NotLoaded, Memory}
 use Rattle.archive_world.specs.declared.world_fault.WorldFault.{WorldFault}
 use Rattle.archive_world.specs.declared.world_fault.WorldFault.TheVariants as world
-use Rattle.archive_model.specs.World.{Event, begin, deliver, client_times_out, server_times_out, stray, restart, unknown_keep, World, MayHappen}
+use Rattle.archive_model.specs.World.{Event, begin, deliver, client_times_out, server_times_out, stray, restart, unknown_keep, World, Origin, first_world, MayHappen}
 use Rattle.archive_theorem.specs.Headline.{HasOwnPorts}
-use Rattle.archive_model.specs.Restarts.{HasKept}
+use Rattle.archive_model.specs.Restarts.{LoadsAs}
 use Rattle.archive_theorem.proofs.Claim_Invariant.{AreBest}
-use Rattle.archive_world.specs.Replays.{HasHappened, IsDue, Makes, Reuses, starts_again, IsBadAt, IsReusedAt, IsNotKeptAt, IsNotLoadedAt, HasStopped}
+use Rattle.archive_world.specs.Replays.{BeginsFrom, HasHappened, IsDue, Makes, Reuses, starts_again, IsBadAt, IsReusedAt, IsNotKeptAt, IsNotLoadedAt, HasStopped}
 
--- the keeper has a log, and what it has is what the server has
+-- the world at which a replay begins
+abbrev pub BeginsAt : (reported : Option (List Keeping)) → World → Type 0
+BeginsAt reported w = (o : Origin) × BeginsFrom reported o × (w ≡ first_world o)
+
+-- the keeper has a log, and what it has is loaded as what the server has
 pub record KeeperHas (reported : Option (List Keeping)) (w : World) : Type 0 where
   pub log : List Keeping
   pub reports : reported ≡ Some log
-  pub kept : HasKept log w.server.maps
+  pub loads : LoadsAs log w.server.maps
   pub best : AreBest w.taken w.server.maps
 
 -- what an event does; if the server starts again, for a keeper that has what the server has
@@ -63,4 +67,5 @@ ReplayEnds (Err (world.BadEvent i)) events reported now v = IsBadAt events repor
 ReplayEnds (Err (world.PortReused i)) events reported now v = IsReusedAt events reported now i
 ReplayEnds (Err (world.NotKept i)) events reported now v = IsNotKeptAt events reported now i
 ReplayEnds (Err (world.NotLoaded i)) events reported now v = IsNotLoadedAt events reported now i
+ReplayEnds (Err (world.NotStarted fault)) events reported now v = ⊥
 ReplayEnds (Err world.Memory) events reported now v = HasStopped events reported now

@@ -12,8 +12,8 @@ use Rattle.archive_world.specs.declared.running.Running.TheVariants.{Put, Get}
 use Rattle.archive_world.specs.declared.begun.Begun.TheInside as beginning
 use Rattle.archive_world.specs.declared.machine.Machine.TheInside as machines
 use Rattle.archive_world.specs.View.{operation_of}
-use Rattle.archive_model.specs.World.{World, Begun, Datagram, server_endpoint, after_transfer, net_with, sent_with, got_with, newly_sent, newly_got}
-use Rattle.archive_table.specs.Table.{Grant, all, Merges, table_datagram, is_same}
+use Rattle.archive_model.specs.World.{World, Begun, Datagram, server_endpoint, given, after_transfer, net_with, sent_with, got_with, newly_sent, newly_got}
+use Rattle.archive_table.specs.Table.{Taken, Grant, all, Merges, table_datagram, is_same}
 use Rattle.archive_table.specs.Keeper.{Keeping, StepKeeps}
 
 abbrev pub running_of : {A : Type 0} → runnings.Running A → Client
@@ -67,6 +67,11 @@ world_of m =
         strays = m.strays.items;
       };
     }
+
+-- a text that the keeper had at first, as a file that the server has taken
+abbrev pub first_taken : Option (List ℕ) → Option Taken
+first_taken None = None
+first_taken (Some text) = Some (given server_endpoint text)
 
 -- ---- a datagram at a port of the server
 

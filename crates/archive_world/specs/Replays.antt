@@ -1,10 +1,12 @@
 -- What a replay of events guarantees: that all of them have happened, or which one is the first at fault, and why.
 use Rattle.std.specs.Prelude.{◌≡◌, ◌≢◌, ℕ, ◌+◌, ◌≤◌, Bool, true, false, List, [], ◌∷◌, ◌++◌, map, take, length, slice_get, Contains, Option, Some}
+use Rattle.tftp_packet.specs.declared.endpoint.Endpoint.{Endpoint}
+use Rattle.tws_file.specs.declared.«ruleset».Ruleset.TheVariants.{Lynx, Ms}
 use Rattle.archive_table.specs.Table.{Grant, all, unkept, Maps, Taken, IsMerged}
-use Rattle.archive_table.specs.Keeper.{Keeping, KeepsMaps}
-use Rattle.archive_model.specs.World.{Event, begin, deliver, client_times_out, server_times_out, stray, restart, unknown_keep, WorldStep, World, start, event_happens, happens, run, wanted_by, HasMerged, AllMerged, MayHappen, AllMayHappen}
-use Rattle.archive_theorem.specs.Headline.{HasOwnPorts, Headline}
-use Rattle.archive_model.specs.Restarts.{EventKeeps}
+use Rattle.archive_table.specs.Keeper.{Keeping, Loads, IsLoaded, KeepsMaps}
+use Rattle.archive_model.specs.World.{Event, begin, deliver, client_times_out, server_times_out, stray, restart, unknown_keep, WorldStep, World, Origin, server_endpoint, first_world, event_happens, happens, run_from, wanted_by, HasMerged, AllMerged, MayHappen, AllMayHappen}
+use Rattle.archive_theorem.specs.Headline.{HasOwnPorts, HasOperation, ClientHeadline, ClientsHeadline}
+use Rattle.archive_model.specs.Restarts.{EventKeeps, text_list}
 use Rattle.archive_world.specs.Outcomes.{Outcome, outcome_of}
 
 -- Of the lists that a start loads as the same collections, the keeper has this one: a restart does not change its list, and a
@@ -50,17 +52,32 @@ abbrev pub AllDue : List WorldStep → World → Type 0
 AllDue [] w = Unit {0}
 AllDue (s ∷ steps) w = IsDue s.event s.grant w × AllDue steps (happens s w)
 
--- From the start, these events have led to this world. Each was allowed to happen, and no port is reused. A keeper that
--- had a log still has it, and in it what the steps have kept.
+-- How a replay begins: the server has the collections that are loaded from its keeper's texts, which are the first files
+-- taken. If the keeper has a log, they are those that it kept last.
+pub record BeginsFrom (reported : Option (List Keeping)) (o : Origin) : Type 0 where
+  pub lynx : Option (List ℕ)
+  pub ms : Option (List ℕ)
+  pub has_lynx : Loads Lynx reported lynx
+  pub has_ms : Loads Ms reported ms
+  pub home : o.home ≡ server_endpoint
+  pub texts : o.texts ≡ text_list lynx ++ text_list ms
+  pub lynx_is : IsLoaded Lynx lynx o.maps.lynx
+  pub ms_is : IsLoaded Ms ms o.maps.ms
+
+-- From such a beginning, these events have led to this world. Each was allowed to happen, and no port is reused. A keeper
+-- that had a log still has it, and in it what the steps have kept.
 pub record HasHappened (events : List Event) (reported now : Option (List Keeping)) (w : World) : Type 0 where
+  pub origin : Origin
+  pub begins : BeginsFrom reported origin
   pub steps : List WorldStep
   pub events_are : map (λ (s : WorldStep). s.event) steps ≡ events
-  pub is : w ≡ run steps
-  pub may : AllMayHappen steps start
+  pub is : w ≡ run_from steps (first_world origin)
+  pub may : AllMayHappen steps (first_world origin)
   pub own : HasOwnPorts w
-  pub merged : AllMerged steps start
-  pub due : AllDue steps start
-  pub keeps : (before : List Keeping) → reported ≡ Some before → (log : List Keeping) × (now ≡ Some log) × HaveKept steps start before log
+  pub merged : AllMerged steps (first_world origin)
+  pub due : AllDue steps (first_world origin)
+  pub keeps : (before : List Keeping) → reported ≡ Some before →
+      (log : List Keeping) × (now ≡ Some log) × HaveKept steps (first_world origin) before log
 
 -- what one event does to a world and to a keeper's list, if it may happen and reuses no port
 pub record Makes (e : Event) (reported now : Option (List Keeping)) (w v : World) : Type 0 where
@@ -85,16 +102,17 @@ starts_again (stray d) = false
 starts_again restart = true
 starts_again (unknown_keep index found) = true
 
--- If the server starts again, the keeper has a log, which is empty at first. Otherwise any keeper will do.
+-- If the server starts again, the keeper has a log. Otherwise any keeper will do.
 abbrev pub IsReady : (reported : Option (List Keeping)) → List Event → Type 0
-IsReady reported events = (e : Event) → Contains events e → starts_again e ≡ true → reported ≡ Some []
+IsReady reported events = (e : Event) → Contains events e → starts_again e ≡ true → (log : List Keeping) × (reported ≡ Some log)
 
--- All events have happened, the outcome is that of the world after them, and the headline holds for it.
+-- All events have happened, the outcome is that of the world after them, and the headline holds for it and each client.
 pub record HasRun (events : List Event) (reported now : Option (List Keeping)) (outcome : Outcome) : Type 0 where
   pub world : World
   pub happened : HasHappened events reported now world
   pub is : outcome ≡ outcome_of world
-  pub headline : Headline world
+  pub headline : ClientsHeadline happened.origin world
+  pub clients : (e : Endpoint) → HasOperation world.begun e → ClientHeadline world.past e
 
 -- The events before this place have happened, and the one there may not happen after them, or is a keep with an unknown outcome
 -- of a file that changes no collection.

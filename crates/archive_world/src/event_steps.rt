@@ -4,8 +4,7 @@ ghost use Rattle.std.specs.Prelude.{◌≡◌, ◌≢◌, ◌==◌, List, Some, 
 ghost use Rattle.archive_client.specs.Client.{is_too_long};
 ghost use Rattle.archive_table.specs.Table.{all, table_request, request_verdict, empty_maps};
 ghost use Rattle.archive_table.specs.Keeper.{Keeping, TableFails};
-ghost use Rattle.tws_best.specs.Best.{IsCollected};
-ghost use Rattle.archive_model.specs.Restarts.{HasKept};
+ghost use Rattle.archive_model.specs.Restarts.{LoadsAs};
 ghost use Rattle.tftp_ends.specs.Ends.{granted};
 ghost use Rattle.archive_world.specs.View.{operation_of};
 ghost use Rattle.archive_theorem.specs.Reuse.{IsUnused, was_opened};
@@ -184,8 +183,8 @@ pub(crate) fn request<A: Allocator + Copy>(
     }
 }
 
-/// Restarts the server. If the keeper has a log, and what it kept last is what the server has, the collections do
-/// not change.
+/// Restarts the server. If the keeper has a log, and what it kept last is loaded as what the server has, the collections
+/// do not change.
 ///
 /// # Errors
 ///
@@ -195,8 +194,8 @@ pub(crate) fn restart<K: Keeper, A: Allocator + Copy>(
     keeper: &mut K,
 ) -> Result<(), LoadFault>
     requires request { machine.old.server.request ≡ server_endpoint.port }
-    ensures made { OnOk result ((log : List Keeping) → K.calls keeper.old ≡ Some log → HasKept log machine.old.server.maps →
-        IsCollected machine.old.server.maps.lynx → IsCollected machine.old.server.maps.ms → machine.new ≡ restarts machine.old) }
+    ensures made { OnOk result ((log : List Keeping) → K.calls keeper.old ≡ Some log → LoadsAs log machine.old.server.maps →
+        machine.new ≡ restarts machine.old) }
     ensures home { OnOk result (machine.new.home ≡ machine.old.home) }
     ensures request { OnOk result (machine.new.server.request ≡ machine.old.server.request) }
     ensures calls { K.calls keeper.new ≡ K.calls keeper.old }

@@ -14,6 +14,7 @@ ghost use Rattle.archive_theorem.specs.Reuse.{has_strayed, was_opened, is_openin
 ghost use Rattle.tws_best.specs.Best.{collection_text};
 
 mod ending;
+mod starting;
 
 use crate::answered::Answered;
 use crate::asked::Asked;

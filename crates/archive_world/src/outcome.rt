@@ -13,7 +13,7 @@ use tws_file::Bytes;
 #[derive(Drop)]
 #[derive_where(Debug)]
 pub struct Outcome<A: Allocator = Global> {
-    /// The files that the server has taken.
+    /// The files that the server has taken. The first are the texts that its keeper had, from the server's own endpoint.
     pub taken: Vec<TakenFile<A>, A>,
     /// Those of them whose peers were told that they were not kept.
     pub recovered: Vec<TakenFile<A>, A>,

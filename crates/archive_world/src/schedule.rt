@@ -1,10 +1,11 @@
 //! Makes a list of events happen, one by one.
 
-ghost use Rattle.std.specs.Prelude.{◌≡◌, ℕ, Err, IfOk};
-ghost use Rattle.archive_model.specs.World.{start};
+ghost use Rattle.std.specs.Prelude.{◌≡◌, ◌≢◌, ℕ, Err, IfOk};
+ghost use Rattle.archive_table.specs.declared.load_fault.LoadFault.{LoadFault};
+ghost use Rattle.archive_table.specs.Keeper.{TableFails};
 ghost use Rattle.archive_world.specs.View.{events_of};
 ghost use Rattle.archive_world.specs.Replays.{IsReady, HasRun, IsBadAt, IsReusedAt, IsNotKeptAt, IsNotLoadedAt, HasStopped};
-ghost use Rattle.archive_world.specs.Exits.{world_fault_of, ReplayEnds};
+ghost use Rattle.archive_world.specs.Exits.{BeginsAt, world_fault_of, ReplayEnds};
 
 use crate::event::Event;
 use crate::event_fault::EventFault;
@@ -34,8 +35,9 @@ fn happen_all<K: Keeper, A: Allocator + Copy>(
     keeper: &mut K,
     events: &[Event<A>],
 ) -> Result<(), WorldFault>
-    requires start { machine.old ≡ start }
-    ensures { IsReady (K.calls keeper.old) (events_of events.now) →
+    requires start { BeginsAt (K.calls keeper.old) machine.old }
+    ensures started { (fault : LoadFault) → result ≢ Err (WorldFault.NotStarted fault) }
+    ensures ends { IsReady (K.calls keeper.old) (events_of events.now) →
         ReplayEnds result (events_of events.now) (K.calls keeper.old) (K.calls keeper.new) machine.new }
 {
     let mut i = 0;
@@ -49,14 +51,14 @@ fn happen_all<K: Keeper, A: Allocator + Copy>(
     Ok(())
 }
 
-/// Returns the outcome of these events, from a start at which nothing was sent and the server has nothing. The server
-/// keeps its collections with the keeper, and loads them from it at a restart.
+/// Returns the outcome of these events, from a start at which nothing was sent. The server loads its collections from the
+/// keeper, at the start and at each restart, and keeps them with it.
 ///
 /// # Errors
 ///
-/// The first event that is not allowed, that reuses a port, of which the keeper has not kept the collection that is to be
-/// found, or at which the server cannot load its collections; out of memory. The keeper then has what the earlier steps
-/// have kept.
+/// `NotStarted` if the server cannot load what the keeper has at first; the first event that is not allowed, that reuses a
+/// port, of which the keeper has not kept the collection that is to be found, or at which the server cannot load its
+/// collections; out of memory. The keeper then has what the earlier steps have kept.
 pub fn replay<K: Keeper, A: Allocator + Copy>(
     alloc: A,
     keeper: &mut K,
@@ -64,6 +66,8 @@ pub fn replay<K: Keeper, A: Allocator + Copy>(
 ) -> Result<Outcome<A>, WorldFault>
     ensures ran { IfOk result (λ outcome. IsReady (K.calls keeper.old) (events_of events.now) →
         HasRun (events_of events.now) (K.calls keeper.old) (K.calls keeper.new) outcome) }
+    ensures not_started { (fault : LoadFault) → result ≡ Err (WorldFault.NotStarted fault) →
+        TableFails (K.calls keeper.old) fault × (K.calls keeper.new ≡ K.calls keeper.old) }
     ensures bad { (i : ℕ) → result ≡ Err (WorldFault.BadEvent i) → IsReady (K.calls keeper.old) (events_of events.now) →
         IsBadAt (events_of events.now) (K.calls keeper.old) (K.calls keeper.new) i }
     ensures reused { (i : ℕ) → result ≡ Err (WorldFault.PortReused i) → IsReady (K.calls keeper.old) (events_of events.now) →
@@ -75,7 +79,10 @@ pub fn replay<K: Keeper, A: Allocator + Copy>(
     ensures memory { result ≡ Err WorldFault.Memory → IsReady (K.calls keeper.old) (events_of events.now) →
         HasStopped (events_of events.now) (K.calls keeper.old) (K.calls keeper.new) }
 {
-    let mut machine = Machine::new(alloc);
+    let mut machine = match Machine::load(alloc, keeper) {
+        Ok(machine) => machine,
+        Err(fault) => return Err(WorldFault::NotStarted(fault)),
+    };
     match happen_all(&mut machine, keeper, events) {
         Ok(()) => {}
         Err(fault) => return Err(fault),

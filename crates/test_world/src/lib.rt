@@ -1,4 +1,4 @@
-//! Tests only: lists of events for `replay`, with what its keeper is given, and with keepers that fail. Lists without a keeper
+//! Tests only: lists of events for `replay`, with what its keeper has and is given, and with keepers that fail. Lists without a keeper
 //! of their own are tested by the program `replay_schedule` (`system_tests/schedules`).
 #![tactic(auto)]
 
@@ -6,5 +6,7 @@
 mod keeping;
 #[cfg(test)]
 mod scene;
+#[cfg(test)]
+mod starting;
 #[cfg(test)]
 mod unknown_keeps;

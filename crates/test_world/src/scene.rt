@@ -50,7 +50,7 @@ fn events_of(alloc: Global, acts: &[Act<'_>]) -> Result<Vec<Event>, Fail> {
 }
 
 // Why these events have no run with this keeper, if they have none.
-pub(crate) fn fault_by(
+fn fault_by(
     alloc: Global,
     keeper: &mut MemoryKeeper,
     acts: &[Act<'_>],
@@ -60,6 +60,21 @@ pub(crate) fn fault_by(
         Ok(_outcome) => Ok(None),
         Err(fault) => Ok(Some(fault)),
     }
+}
+
+// A keeper that has this text for Lynx.
+fn keeper_with(alloc: Global, text: &[u8]) -> Result<MemoryKeeper, Fail> {
+    let text = Vec::from_slice(alloc, text)?;
+    Ok(MemoryKeeper::with(alloc, Some(text), None)?)
+}
+
+// The fault of these events with such a keeper.
+pub(crate) fn fault_from(
+    alloc: Global,
+    text: &[u8],
+    acts: &[Act<'_>],
+) -> Result<Option<WorldFault>, Fail> {
+    fault_by(alloc, &mut keeper_with(alloc, text)?, acts)
 }
 
 // The fault of these events if this call of the keeper fails, and whether the keeper was given the file of 100 ticks.
@@ -74,8 +89,10 @@ pub(crate) fn failing(
     Ok((fault, was_given(&keeper, &[(HUNDRED, true)])))
 }
 
-// The call of a keeper that fails, if none does.
+// The call of a keeper that fails, if none does; and its first after the start, which loads Lynx and then MS.
 pub(crate) const NO_CALL: u64 = 0;
+
+pub(crate) const FIRST: u64 = 3;
 
 // What a run leaves: a file with its peer; those whose peers were told that they were not kept; the clients that count theirs as sent; an opening's peer, port and count of files
 // taken; the text of the Lynx collection; a datagram's source, target and bytes; the texts that the keeper was given for it,
@@ -219,4 +236,14 @@ pub(crate) fn other_after(
     let mut keeper = MemoryKeeper::new(alloc);
     keeper.fail_at(fails);
     other_with(alloc, &mut keeper, acts, wanted)
+}
+
+// The same with a keeper that has this text for Lynx.
+pub(crate) fn other_from(
+    alloc: Global,
+    text: &[u8],
+    acts: &[Act<'_>],
+    wanted: &Wanted<'_>,
+) -> Result<Option<&'static str>, Fail> {
+    other_with(alloc, &mut keeper_with(alloc, text)?, acts, wanted)
 }
