@@ -1,3 +1,4 @@
 pub mod Apart
 pub mod Logs
 pub mod Lifetimes
+pub mod Cutting

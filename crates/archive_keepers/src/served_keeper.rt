@@ -5,6 +5,7 @@ ghost use Rattle.std.specs.Prelude.{◌≡◌, Bool, true};
 use crate::folder_keeper::FolderKeeper;
 use crate::limited::Limited;
 use crate::no_keeper::NoKeeper;
+use crate::readable::Readable;
 use archive_table::Keeper;
 use folders::Folder;
 use std::io;
@@ -19,6 +20,9 @@ pub trait ServedKeeper: Keeper {
     fn is_usable(&self) -> bool
         ensures { result ≡ usable self.now };
 
+    /// How many collections it refused for the solutions in them, saturating.
+    fn unreadable(&self) -> u64;
+
     /// What the system said of its call that failed last, if one has and that is known.
     fn last_error(&self) -> Option<io::Error>;
 }
@@ -28,6 +32,10 @@ impl ServedKeeper for NoKeeper {
 
     fn is_usable(&self) -> bool {
         true
+    }
+
+    fn unreadable(&self) -> u64 {
+        0
     }
 
     fn last_error(&self) -> Option<io::Error> {
@@ -42,6 +50,10 @@ impl<F: Folder> ServedKeeper for FolderKeeper<F> {
         FolderKeeper::is_usable(self)
     }
 
+    fn unreadable(&self) -> u64 {
+        0
+    }
+
     fn last_error(&self) -> Option<io::Error> {
         self.folder().last_error()
     }
@@ -52,6 +64,26 @@ impl<K: ServedKeeper> ServedKeeper for Limited<K> {
 
     fn is_usable(&self) -> bool {
         self.keeper().is_usable()
+    }
+
+    fn unreadable(&self) -> u64 {
+        self.keeper().unreadable()
+    }
+
+    fn last_error(&self) -> Option<io::Error> {
+        self.keeper().last_error()
+    }
+}
+
+impl<K: ServedKeeper> ServedKeeper for Readable<K> {
+    ghost usable = { λ r. K.usable r.keeper };
+
+    fn is_usable(&self) -> bool {
+        self.keeper().is_usable()
+    }
+
+    fn unreadable(&self) -> u64 {
+        self.refused()
     }
 
     fn last_error(&self) -> Option<io::Error> {

@@ -90,11 +90,14 @@ impl<K: ServedKeeper, C: Clock, L: Log> Keeper for ReportingKeeper<K, C, L> {
         ensures failed { result ≡ Err KeepFault.Device → Rises (saturating_sum (K.failed self.old.keeper.keeper) self.old.keeper.refused) (saturating_sum (K.failed self.new.keeper.keeper) self.new.keeper.refused) }
     {
         let refused = self.keeper.refused();
+        let unreadable = self.keeper.keeper().unreadable();
         let result = self.keeper.keep(ruleset, collection);
         if let Err(fault) = result {
             let bytes = u64::try_from(collection.text_len()).unwrap_or(u64::MAX);
             if self.keeper.refused() > refused {
                 self.report(ruleset, bytes, "longer than the limit");
+            } else if self.keeper.keeper().unreadable() > unreadable {
+                self.report(ruleset, bytes, "a solution without moves or of level 0");
             } else {
                 self.report_fault(ruleset, bytes, fault);
             }
@@ -120,6 +123,10 @@ impl<K: ServedKeeper, C: Clock, L: Log> ServedKeeper for ReportingKeeper<K, C, L
 
     fn is_usable(&self) -> bool {
         self.keeper.is_usable()
+    }
+
+    fn unreadable(&self) -> u64 {
+        self.keeper.unreadable()
     }
 
     fn last_error(&self) -> Option<io::Error> {
