@@ -5,7 +5,8 @@ use Rattle.tws_file.specs.declared.«ruleset».Ruleset.{Ruleset}
 use Rattle.tws_best.specs.Best.{KeyedBody, Collected, IsCollectionOf, IsSolutionIn, collection_text, solutions_of, IsBestOver}
 use Rattle.tws_best.proofs.Bests.{held_by_best}
 use Rattle.tws_best.proofs.Sets.{one_collection}
-use Rattle.archive_mirrors.specs.Archives.{Archives, Copy, Event, IsBetterPart, HasNothingBetter, start, run, run_from, happens, AllMayHappen, own_of, outside_of}
+use Rattle.tws_compare.specs.Part.{IsBetterPart, HasNothingBetter}
+use Rattle.archive_mirrors.specs.Archives.{Archives, Copy, Event, start, run, run_from, happens, AllMayHappen, own_of, outside_of}
 use Rattle.archive_mirrors.specs.Reaching.{Reaches, HoldsText, IsNoWorse, AllReach, OnlyAt}
 use Rattle.archive_mirrors.proofs.Covering.{AsGood, good_itself, good_then, good_joined, good_back, good_members, good_collection, more_cover, covers_then, Covers, covers_itself, covers_both, right_covers}
 use Rattle.archive_mirrors.proofs.Copies.{IsCollectionText, from_best, best_good, other_good, part_good, better_named, empty_text, empty_good, nothing_part}

@@ -21,7 +21,7 @@ use Rattle.tws_compare.specs.Compare.{best_in, sides_of, better_entries, better_
 use Rattle.tws_compare.proofs.Choosing.{rising_kept}
 use Rattle.tws_compare.proofs.Filters.{from_kept}
 use Rattle.tws_compare.proofs.Improving.{file_enough}
-use Rattle.archive_mirrors.specs.Archives.{IsBetterPart, HasNothingBetter}
+use Rattle.tws_compare.specs.Part.{IsBetterPart, HasNothingBetter}
 use Rattle.archive_mirrors.proofs.Covering.{Holds, holds_then, holds_best, Covers, AsGood, more_cover, covers_then, covers_both, left_covers, right_covers, collection_good}
 
 -- ---- the text of a collection

@@ -15,7 +15,7 @@ use Rattle.tws_best.specs.RankOrder.{rank_total}
 use Rattle.std.specs.Cmp.{tied_itself}
 use Rattle.std.specs.List.{filter}
 use Rattle.std.specs.declared.cmp.Ordering.{Ordering}
-use Rattle.archive_mirrors.specs.Archives.{IsBetterPart, HasNothingBetter}
+use Rattle.tws_compare.specs.Part.{IsBetterPart, HasNothingBetter}
 use Rattle.tws_reader.proofs.Readability.{readable_or_not}
 use Rattle.archive_mirrors.proofs.Copies.{IsCollectionText}
 

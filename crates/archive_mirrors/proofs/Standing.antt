@@ -6,7 +6,8 @@ use Rattle.std.proofs.lemmas.List.Elements.{Contains-append_left, Contains-push_
 use Rattle.tws_file.specs.declared.«ruleset».Ruleset.{Ruleset}
 use Rattle.tws_file.specs.declared.«ruleset».Ruleset.TheVariants.{Lynx, Ms}
 use Rattle.tws_best.proofs.Members.{Contains-none}
-use Rattle.archive_mirrors.specs.Archives.{Archives, Copy, Event, takes, fetches, puts, puts_better, skips, restarts, IsBetterPart, start, at_archive, of_ruleset, copy_of, with_text, with_sources, happens, run_from, run, MayHappen, AllMayHappen}
+use Rattle.tws_compare.specs.Part.{IsBetterPart}
+use Rattle.archive_mirrors.specs.Archives.{Archives, Copy, Event, takes, fetches, puts, puts_better, skips, restarts, start, at_archive, of_ruleset, copy_of, with_text, with_sources, happens, run_from, run, MayHappen, AllMayHappen}
 use Rattle.archive_mirrors.proofs.Covering.{Covers, AsGood, good_itself, good_then, good_joined, good_back, covers_then, more_cover}
 use Rattle.archive_mirrors.proofs.Copies.{IsCollectionText, from_best, best_good, other_good, file_of, part_text, part_good, better_named, empty_text, empty_good, nothing_part}
 

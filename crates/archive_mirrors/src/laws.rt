@@ -3,7 +3,8 @@
 ghost use Rattle.std.specs.Prelude.{◌≡◌, ◌≢◌, ◌↔◌, ℕ, List, [], ◌∷◌, ◌++◌, Contains};
 ghost use Rattle.tws_file.specs.declared.«ruleset».Ruleset.{Ruleset as Rules};
 ghost use Rattle.tws_best.specs.Best.{KeyedBody, Collected, IsCollectionOf, IsSolutionIn, IsBestOver};
-ghost use Rattle.archive_mirrors.specs.Archives.{IsBetterPart, HasNothingBetter, Archives, Copy, Event, start, run, run_from, AllMayHappen, own_of, outside_of};
+ghost use Rattle.tws_compare.specs.Part.{IsBetterPart, HasNothingBetter};
+ghost use Rattle.archive_mirrors.specs.Archives.{Archives, Copy, Event, start, run, run_from, AllMayHappen, own_of, outside_of};
 ghost use Rattle.archive_mirrors.specs.Reaching.{Reaches, Syncs, HoldsText, IsNoWorse, AllReach, OnlyAt};
 
 /// Whatever the archives take from one another, each collection is the best over texts that came from outside: over all

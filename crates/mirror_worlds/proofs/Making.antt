@@ -23,7 +23,8 @@ use Rattle.archive_theorem.proofs.Headline_Collections.{last-best}
 use Rattle.archive_theorem.proofs.Headline_Clients.{run-clients}
 use Rattle.archive_theorem.proofs.Event_Happens.{run-append}
 use Rattle.archive_theorem.proofs.Trace_Runs.{merged_append}
-use Rattle.archive_mirrors.specs.Archives.{Archives, Copy, Event, takes, fetches, puts, puts_better, IsBetterPart, HasNothingBetter, skips, of_ruleset, at_archive, copy_of, with_text, MayHappen, AllMayHappen, run, outside_of}
+use Rattle.tws_compare.specs.Part.{IsBetterPart, HasNothingBetter}
+use Rattle.archive_mirrors.specs.Archives.{Archives, Copy, Event, takes, fetches, puts, puts_better, skips, of_ruleset, at_archive, copy_of, with_text, MayHappen, AllMayHappen, run, outside_of}
 use Rattle.archive_mirrors.specs.Archives as archives
 use Rattle.archive_mirrors.proofs.Moving as moving
 use Rattle.archive_mirrors.proofs.Concluding.{sources-best, alike, one_text, holds-solution, collection-lasts, all-best}

@@ -6,7 +6,8 @@ use Rattle.archive_table.specs.Table.{Taken}
 use Rattle.archive_model.specs.World.{Opening, Got, World, WorldStep, Origin, first_world, RunFrom, last_world, happens, HasMerged}
 use Rattle.tws_best.specs.Best.{IsBestOver}
 use Rattle.archive_theorem.specs.Headline.{IsOwn, files_of}
-use Rattle.archive_mirrors.specs.Archives.{Archives, Copy, Event, takes, puts, puts_better, skips, IsBetterPart, AllMayHappen, run}
+use Rattle.tws_compare.specs.Part.{IsBetterPart}
+use Rattle.archive_mirrors.specs.Archives.{Archives, Copy, Event, takes, puts, puts_better, skips, AllMayHappen, run}
 use Rattle.archive_mirrors.specs.Archives as archives
 
 -- what a client of an archive has fetched

@@ -9,7 +9,8 @@ ghost use Rattle.archive_table.specs.Table.{map_of};
 ghost use Rattle.archive_model.specs.World.{World, Origin, empty_origin, first_world};
 ghost use Rattle.archive_theorem.specs.Headline.{IsOwn};
 ghost use Rattle.archive_theorem.specs.Effects.{HasBegunWith};
-ghost use Rattle.archive_mirrors.specs.Archives.{Copy, Event, HasNothingBetter, run, outside_of};
+ghost use Rattle.tws_compare.specs.Part.{HasNothingBetter};
+ghost use Rattle.archive_mirrors.specs.Archives.{Copy, Event, run, outside_of};
 ghost use Rattle.archive_mirrors.specs.Reaching.{Reaches, HoldsText, AllReach, OnlyAt};
 ghost use Rattle.mirror_worlds.specs.Worlds.{JointStep, Fetched, HasFetched, MayJoin, Matches, Joins, Skips, IsCopyOf, with_origin, takes_all};
 

@@ -3,6 +3,7 @@ pub mod Dropped
 pub mod Standing
 pub mod Sides
 pub mod Compare
+pub mod Part
 pub mod Counts
 pub mod Lines
 pub mod Password

@@ -28,4 +28,4 @@ pub use password::password_shown;
 pub use removal::without;
 pub use row::Row;
 pub use standing::Standing;
-pub use text::comparison_text;
+pub use text::{comparison_text, counts_text};

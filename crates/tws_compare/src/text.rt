@@ -57,6 +57,19 @@ fn push_counts<A: Allocator>(text: &mut String<A>, counts: Counts) -> Result<(),
     push_better(text, counts)
 }
 
+/// The line of the counts.
+///
+/// # Errors
+///
+/// Out of memory.
+pub fn counts_text<A: Allocator>(alloc: A, counts: Counts) -> Result<String<A>, AllocError>
+    ensures { IfOk result (λ text. string_bytes text ≡ counts_line counts) }
+{
+    let mut text = String::new(alloc);
+    push_counts(&mut text, counts)?;
+    Ok(text)
+}
+
 /// The text of a comparison: a line for each row, in order, and a line with the counts.
 ///
 /// # Errors
