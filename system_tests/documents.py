@@ -17,7 +17,7 @@ from pathlib import Path
 # Words in backticks that are no names of the tree: values of fields, words of standards, and commands of the system.
 WORDS = set("""
 BBBB BDHP CCCC abcd ABCD blksize localhost lynx mail ms netascii octet timeout tsize windowsize
-bash cachegrind callgrind curl free malloc memcpy nohup perf python3 renice rustc strace tftp tworld valgrind
+bash cachegrind callgrind curl flock free malloc memcpy nohup perf python3 renice rustc strace tftp tworld valgrind
 abbrev as case cc continue data elim false impl let match mod record requires ruleset suc true unfolding unsafe use using where zero
 Dec
 """.split())
