@@ -1,12 +1,13 @@
 -- The command `without`.
-use Rattle.std.specs.Prelude.{◌≡◌, ◌⊎◌, ℕ, true, List, Option, Some, None, option_map, string_bytes, codes}
+use Rattle.std.specs.Prelude.{◌≡◌, ◌≤◌, ◌⊎◌, ℕ, true, List, Option, Some, None, option_map, string_bytes, codes}
+use Rattle.std.specs.Str.Parse.{IsNumeral, digits_value, without_leading_plus}
 use Rattle.clap.specs.Words.{App, Row, Rule, Text, first_of, new_app, new_rule, with_rule}
 use Rattle.clap.specs.declared.builder.value_parser.ValueParser.TheVariants as parser
 use Rattle.tws_compare.specs.Password.{IsShown}
 use Rattle.tws_compare.specs.Without.{text_without}
 use Rattle.show_commands.specs.Output.{output_rule}
 use Rattle.file_commands.specs.declared.without.WithoutArguments.{WithoutArguments}
-use Rattle.command_line.specs.Arguments.{HasSource, IsNumberUpTo, source_rule}
+use Rattle.command_line.specs.Arguments.{HasSource, source_rule}
 use Rattle.show_commands.specs.Written.{RanFrom}
 
 abbrev pub without_name : Text
@@ -14,7 +15,7 @@ without_name = codes "without"
 
 -- `LEVEL`
 abbrev pub level_rule : Rule
-level_rule = record (new_rule (codes "level")) { value_names = 1; parser = Some (parser.Unsigned 1 65535); required = true }
+level_rule = record (new_rule (codes "level")) { value_names = 1; parser = Some (parser.Unsigned 0 65535); required = true }
 
 -- `PASSWORD`
 abbrev pub password_rule : Rule
@@ -28,9 +29,15 @@ removing_app = with_rule (with_rule (with_rule (new_app without_name) level_rule
 abbrev pub without_app : App
 without_app = with_rule removing_app output_rule
 
+-- the text is this number, as a record has it: 0 too, which no level has
+pub record IsLevelNumber (text : Text) (n : ℕ) : Type 0 where
+  pub numeral : IsNumeral 10 (without_leading_plus text)
+  pub value : n ≡ digits_value 10 (without_leading_plus text)
+  pub greatest : n ≤ 65535
+
 -- what was given is a level's number
 abbrev pub IsLevel : Option Text → ℕ → Type 0
-IsLevel (Some text) number = IsNumberUpTo 65535 text number
+IsLevel (Some text) number = IsLevelNumber text number
 IsLevel None number = ⊥
 
 -- what was found for its arguments

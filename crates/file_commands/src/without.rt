@@ -1,21 +1,20 @@
 //! The command `without`: a solution file without the solutions of a level.
 
-ghost use Rattle.std.specs.Prelude.{◌≡◌, ◌≢◌, ◌≤◌, false, OnOk, IfOk, IfErr};
+ghost use Rattle.std.specs.Prelude.{◌≡◌, ◌≢◌, ◌≤◌, ℕ, false, OnOk, IfOk, IfErr, IfSome, IfNone};
 ghost use Rattle.std.specs.Io.KnownBytes.{IsAtEnd};
 ghost use Rattle.clap.specs.Matches.{found_of};
 ghost use Rattle.clap.specs.Words.{app_of, first_of, rows_of, rule_of};
 ghost use Rattle.clap.specs.declared.builder.command.Command.TheViews.{out-Command};
 ghost use Rattle.tws_compare.specs.Without.{text_without};
 ghost use Rattle.command_line.specs.Arguments.{Answers};
-ghost use Rattle.file_commands.specs.Without.{AsksForWithout, IsLevel, WithoutRan, level_rule, password_rule, removing_app, without_app};
+ghost use Rattle.file_commands.specs.Without.{AsksForWithout, IsLevel, IsLevelNumber, WithoutRan, level_rule, password_rule, removing_app, without_app};
 ghost use Rattle.command_line.specs.Faults.{IsReadOut};
 ghost use Rattle.show_commands.specs.Written.{Writes, WriteFails};
 
 use clap::builder::ValueParser;
 use clap::{Arg, ArgMatches, Command};
 use command_line::{
-    Source, ToolFault, USAGE, new_command, number_up_to, source_argument, source_given,
-    string_given, text_given,
+    Source, ToolFault, USAGE, new_command, source_argument, source_given, string_given, text_given,
 };
 use show_commands::{OneInputCommand, output_argument, read_input, run_one_input};
 use std::alloc::{AllocError, Global};
@@ -43,7 +42,7 @@ fn level_argument<'a>(alloc: Global) -> Arg<'a>
 {
     Arg::new(alloc, "level")
         .value_name("LEVEL")
-        .value_parser(ValueParser::Unsigned(1, u16::MAX as u64))
+        .value_parser(ValueParser::Unsigned(0, u16::MAX as u64))
         .required(true)
         .help("The number of the level")
 }
@@ -87,13 +86,23 @@ pub fn command<'a>(alloc: Global) -> Result<Command<'a>, AllocError>
     removing_command(alloc)?.arg(output_argument(alloc))
 }
 
+// Parses the number of a level, or 0, which a record can have though no level does.
+fn level_of(text: &str) -> Option<u16>
+    ensures some { IfSome result (IsLevelNumber text.now) }
+    ensures none { IfNone result ((n : ℕ) → IsLevelNumber text.now n → ⊥) }
+{
+    match text.parse::<u64>() {
+        Ok(number) if number <= u16::MAX as u64 => Some(number as u16),
+        _ => None,
+    }
+}
+
 // The number of the level that was given; `None` if that is not a number in range.
 fn level_given(words: &ArgMatches) -> Option<u16>
     ensures { Answers (IsLevel (first_of level_rule.id (rows_of (found_of words.now)))) result }
 {
     let text = text_given(words, "level")?;
-    let number = number_up_to(text, u16::MAX as u64)?;
-    Some(number as u16)
+    level_of(text)
 }
 
 /// What the arguments ask for; `None` if the number of the level is out of range.
