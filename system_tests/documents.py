@@ -33,7 +33,7 @@ MADE_FILES = {"dist/tws.html"}
 
 # Options of other programs, and of `check`.
 FOREIGN_OPTIONS = set("""
---quick --backend --branch-sim --dump-instr --fix-imports --incremental --jobs --now --only --option --test --tftp-no-options --tool
+--quick --backend --branch-sim --dump-instr --exclude --fix-imports --ignore-existing --incremental --jobs --now --only --option --test --tftp-no-options --tool
 """.split())
 
 # The programs that sessions run, each with what the commands that need it have in them.
@@ -170,7 +170,7 @@ def files():
 def options():
     """The options of the program, by its command line."""
     sources = [path.read_text() for crate in ("show_commands", "file_commands", "archive_commands", "tws_tool") for path in Path(f"crates/{crate}/src").rglob("*.rt")]
-    names = re.compile(r'(?:\.long\(|(?:number|text)_argument\(\s*alloc,)\s*"([\w-]+)"')
+    names = re.compile(r'(?:\.long\(|(?:number|text|flag)_argument\(\s*alloc,)\s*"([\w-]+)"')
     return {f"--{name}" for text in sources for name in names.findall(text)} | {"--help", "--version"}
 
 

@@ -3,3 +3,4 @@ pub mod Fetching
 pub mod Listening
 pub mod Sending
 pub mod Statuses
+pub mod Syncs

@@ -6,3 +6,5 @@ pub mod Lines
 pub mod Put
 pub mod Get
 pub mod Serve
+pub mod Syncing
+pub mod Sync

@@ -1,4 +1,4 @@
-//! The commands of the archive over any wire and keeper: what `put`, `get` and `serve` are asked for, and what they do.
+//! The commands of the archive over any wire and keeper: what `put`, `get`, `sync` and `serve` are asked for, and what they do.
 //!
 //! Read `specs/Lines.antt` first, then `specs/Put.antt`, `specs/Get.antt` and `specs/Serve.antt`. The crate's README shows
 //! how it is called.
@@ -18,6 +18,10 @@ mod resolver;
 mod run_fault;
 pub mod serve;
 mod service;
+pub mod sync;
+mod sync_part;
+mod sync_reporting;
+mod syncing;
 mod target;
 mod transfer_wire;
 mod turn_limit;
@@ -32,6 +36,7 @@ pub use reporting::bad_address;
 pub use resolver::Resolver;
 pub use serve::ServeArguments;
 pub use service::Service;
+pub use sync::SyncArguments;
 pub use target::Target;
 pub use transfer_wire::TransferWire;
 pub use turn_limit::TurnLimit;

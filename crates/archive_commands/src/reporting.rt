@@ -42,6 +42,19 @@ fn report_refusal<E: Write>(refusal: &[u8], errors: &mut E) {
     }
 }
 
+/// Prints what the server said of a fault of a transfer over this wire, or the system.
+pub(crate) fn report_more<N: TransferWire, E: Write>(fault: ToolFault, wire: &N, errors: &mut E) {
+    match fault {
+        ToolFault::Transfer(Cause::Refused(_)) => report_refusal(wire.refusal(), errors),
+        ToolFault::Socket => {
+            if let Some(cause) = wire.last_error() {
+                report_cause(fault.status(), "no port", &cause, errors);
+            }
+        }
+        _ => {}
+    }
+}
+
 /// Reports why a transfer over this wire failed, with what the server or the system said in a second line, and returns the
 /// status. `names` are those of `report`.
 pub(crate) fn report_transfer<N: TransferWire, E: Write>(
@@ -53,15 +66,7 @@ pub(crate) fn report_transfer<N: TransferWire, E: Write>(
     ensures { result ≡ status_of fault }
 {
     let status = report(fault, names, errors);
-    match fault {
-        ToolFault::Transfer(Cause::Refused(_)) => report_refusal(wire.refusal(), errors),
-        ToolFault::Socket => {
-            if let Some(cause) = wire.last_error() {
-                report_cause(status, "no port", &cause, errors);
-            }
-        }
-        _ => {}
-    }
+    report_more(fault, wire, errors);
     status
 }
 
