@@ -62,6 +62,24 @@ def junk_costs_no_port():
         check("a port that was just used", first != second)
 
 
+def who_may_not_put_costs_no_port():
+    """With --put-from requests to write from another host open no port, and a put of the host that was named is taken."""
+    with Server("--put-from", "192.0.2.7,127.0.0.2") as server:
+        with Flood(server.port, 20_000, hosts=("127.0.0.1",), junk=WRQ) as flood:
+            while flood.sent < 20_000:
+                time.sleep(0.01)
+            opened = len(sockets_of(server.process.pid))
+            own, began = end("127.0.0.2"), time.monotonic()
+            port = server.begin(own, WRQ)[1]
+            own.sendto(b"\0\3\0\1" + HEADER + record(1), ("127.0.0.1", port))
+            check("the put of a host that may", own.recv(2000) == b"\0\4\0\1")
+            put = time.monotonic() - began
+            status, _, got = server.get()
+        print(f"20,000 requests a second of a host that may not put: {opened} ports open, another's put {put:.2f} s, a get {got:.2f} s")
+        check("the ports of a host that may not put", opened == 1)
+        check("puts and gets beside it", put < 1 and status == 0 and got < 1)
+
+
 def one_host_does_not_close_the_archive():
     """A host that asks for 64 transfers and continues none has 32 of them, and others are served at once."""
     probe = socket.socket(socket.AF_INET, socket.SOCK_DGRAM)
@@ -429,6 +447,7 @@ def main():
     rows = [
         what_waits_is_not_timed_out,
         junk_costs_no_port,
+        who_may_not_put_costs_no_port,
         one_host_does_not_close_the_archive,
         other_hosts_get_no_answer,
         what_a_server_says,

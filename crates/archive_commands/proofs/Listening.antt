@@ -3,6 +3,8 @@ use Rattle.std.proofs.Common.{◌≡◌, ℕ, ◌+◌, ◌<◌, ◌≤◌, Bool,
 use Rattle.archive_table.specs.declared.limits.TheConstants.{LIVE}
 use Rattle.archive_table.specs.Keeper.{Keeping}
 use Rattle.archive_table.specs.Table.{Table}
+use Rattle.archive_server.specs.declared.policies.Policies.{Policies}
+use Rattle.archive_server.specs.declared.putters.Putters.{Putters}
 use Rattle.archive_server.specs.Turn.{MakesMany, MakesOne, TurnOrRound, Server, ServesTurns, count_if, fresh_server, none, more}
 use Rattle.std.specs.Io.KnownBytes.{Appends}
 use Rattle.archive_wire.specs.Wire.{Entry}
@@ -11,7 +13,7 @@ use Rattle.archive_commands.specs.declared.turn_limit.TurnLimit.{TurnLimit}
 use Rattle.archive_commands.specs.declared.serve.ServeArguments.{ServeArguments}
 use Rattle.command_line.specs.declared.tool_fault.ToolFault.{ToolFault}
 use Rattle.command_line.specs.declared.tool_fault.ToolFault.TheVariants.{Read, Write, Unreadable, Memory, Socket, Transfer}
-use Rattle.archive_commands.specs.Serve.{IsLimitFor, HasHost, IsNoHost, RunsUpToWhile, ServeRan, ServedFrom, begun_when, count_of, given_address, turn_of, ServeEnds, ServeFails, Served, ServerServed, Serves}
+use Rattle.archive_commands.specs.Serve.{IsLimitFor, HasHost, HasPolicies, HasPutters, IsNoHost, IsNoPutters, given_putters, RunsUpToWhile, ServeRan, ServedFrom, begun_when, count_of, given_address, turn_of, ServeEnds, ServeFails, Served, ServerServed, Serves}
 use Rattle.command_line.specs.Faults.{answer_status, status_of}
 use Rattle.archive_commands.specs.Lines.{LineFails, serving_line, taken_line}
 
@@ -54,37 +56,37 @@ module _ (old new : Option (List ℕ)) where
       ⊎_elim (λ first. line_status (serving_line port) old new e first.1)
       (λ last. line_status (taken_line last.taken) last.between new e last.fails) fails
 
-  module _ (port turns per_host : ℕ) (start : Table) (before after : Option (List Entry)) (kept now : Option (List Keeping)) where
+  module _ (port turns : ℕ) (policies : Policies) (start : Table) (before after : Option (List Entry)) (kept now : Option (List Keeping)) where
     usable_served : (r : Result (Unit {0}) ToolFault) →
-        ServeEnds port (now ≡ kept) (ServerServed turns per_host start true before after kept now) old new r
-        → Served port turns per_host start (answer_status r) true before after kept now old new
+        ServeEnds port (now ≡ kept) (ServerServed turns policies start true before after kept now) old new r
+        → Served port turns policies start (answer_status r) true before after kept now old new
     usable_served (Ok done) serves = record { done = λ e. (refl, serves); failed = λ e. absurd (omega (arith, e)); few = inl refl }
     usable_served (Err e) stops =
-        let two = fails_status port (now ≡ kept) (ServerServed turns per_host start true before after kept now) e stops in
+        let two = fails_status port (now ≡ kept) (ServerServed turns policies start true before after kept now) e stops in
         record { done = λ z. absurd (omega (arith, z, two)); failed = λ z. inr (inl (e, stops)); few = inr two }
 
     unknown_served : (r : Result (Unit {0}) ToolFault) →
-        ServeEnds port (now ≡ kept) (ServerServed turns per_host start false before after kept now) old new r
-        → Served port turns per_host start 2 false before after kept now old new
+        ServeEnds port (now ≡ kept) (ServerServed turns policies start false before after kept now) old new r
+        → Served port turns policies start 2 false before after kept now old new
     unknown_served (Ok done) serves = record { done = λ z. absurd (omega (arith, z)); failed = λ z. inr (inr (refl, serves)); few = inr refl }
     unknown_served (Err e) stops = record { done = λ z. absurd (omega (arith, z)); failed = λ z. inr (inl (e, stops)); few = inr refl }
 
     -- no port was opened, and nothing was done
-    pub unopened : (usable : Bool) (status : ℕ) → status ≡ 2 → new ≡ old → now ≡ kept → Served port turns per_host start status usable before after kept now old new
+    pub unopened : (usable : Bool) (status : ℕ) → status ≡ 2 → new ≡ old → now ≡ kept → Served port turns policies start status usable before after kept now old new
     unopened usable status two unwritten unkept = record { done = λ z. absurd (omega (arith, z, two)); failed = λ z. inl (unwritten, unkept); few = inr two }
 
     -- by whether the keeper is usable at the end
     pub served : (usable : Bool) (status : ℕ) (r : Result (Unit {0}) ToolFault) → (usable ≡ true → status ≡ answer_status r) → (usable ≡ false → status ≡ 2)
-        → ServeEnds port (now ≡ kept) (ServerServed turns per_host start usable before after kept now) old new r
-        → Served port turns per_host start status usable before after kept now old new
-    served true status r is two ends = subst (λ (n : ℕ). Served port turns per_host start n true before after kept now old new) (sym (is refl)) (usable_served r ends)
-    served false status r is two ends = subst (λ (n : ℕ). Served port turns per_host start n false before after kept now old new) (sym (two refl)) (unknown_served r ends)
+        → ServeEnds port (now ≡ kept) (ServerServed turns policies start usable before after kept now) old new r
+        → Served port turns policies start status usable before after kept now old new
+    served true status r is two ends = subst (λ (n : ℕ). Served port turns policies start n true before after kept now old new) (sym (is refl)) (usable_served r ends)
+    served false status r is two ends = subst (λ (n : ℕ). Served port turns policies start n false before after kept now old new) (sym (two refl)) (unknown_served r ends)
 
 -- a server makes its turns or rounds
-pub server_served : (Begins : Option (List Keeping) → Type 0) (turns per_host : ℕ) (start : Table) (usable : Bool) (before after : Option (List Entry)) (kept now : Option (List Keeping))
-    (limit : TurnLimit) (first last : Server) → IsLimitFor turns limit → first ≡ fresh_server per_host start →
-    (taken : ℕ) → RunsUpToWhile Begins limit usable first last taken before after kept now → ServerServed turns per_host start usable before after kept now taken
-server_served Begins turns per_host start usable before after kept now limit first last limit-is fresh taken made = record {
+pub server_served : (Begins : Option (List Keeping) → Type 0) (turns : ℕ) (policies : Policies) (start : Table) (usable : Bool) (before after : Option (List Entry)) (kept now : Option (List Keeping))
+    (limit : TurnLimit) (first last : Server) → IsLimitFor turns limit → first ≡ fresh_server policies start →
+    (taken : ℕ) → RunsUpToWhile Begins limit usable first last taken before after kept now → ServerServed turns policies start usable before after kept now taken
+server_served Begins turns policies start usable before after kept now limit first last limit-is fresh taken made = record {
   first = first;
   last = last;
   fresh = fresh;
@@ -93,17 +95,17 @@ server_served Begins turns per_host start usable before after kept now limit fir
   made = made.runs;
 }
 
--- a service whose server is this one but for the limit of a host, and whose keeper had this
-pub served_by : (given made : Server) (port turns per_host status : ℕ) (usable : Bool) (before after : Option (List Entry)) (was kept now : Option (List Keeping)) (old new : Option (List ℕ)) →
-    made ≡ record given { per_host = per_host } → given.table.request ≡ port → was ≡ kept →
-    Served made.table.request turns made.per_host made.table status usable before after was now old new →
-    Served port turns per_host given.table status usable before after kept now old new
-served_by given made port turns per_host status usable before after was kept now old new made-is port-is kept-is served =
-    let by_server : Served given.table.request turns per_host given.table status usable before after was now old new =
-    subst (λ (s : Server). Served s.table.request turns s.per_host s.table status usable before after was now old new) made-is served in
-    let by_port : Served port turns per_host given.table status usable before after was now old new =
-    subst (λ (p : ℕ). Served p turns per_host given.table status usable before after was now old new) port-is by_server in
-    subst (λ (k : Option (List Keeping)). Served port turns per_host given.table status usable before after k now old new) kept-is by_port
+-- a service whose server is this one but for its policies, and whose keeper had this
+pub served_by : (given made : Server) (port turns : ℕ) (policies : Policies) (status : ℕ) (usable : Bool) (before after : Option (List Entry)) (was kept now : Option (List Keeping)) (old new : Option (List ℕ)) →
+    made ≡ record given { policies = policies } → given.table.request ≡ port → was ≡ kept →
+    Served made.table.request turns made.policies made.table status usable before after was now old new →
+    Served port turns policies given.table status usable before after kept now old new
+served_by given made port turns policies status usable before after was kept now old new made-is port-is kept-is served =
+    let by_server : Served given.table.request turns policies given.table status usable before after was now old new =
+    subst (λ (s : Server). Served s.table.request turns s.policies s.table status usable before after was now old new) made-is served in
+    let by_port : Served port turns policies given.table status usable before after was now old new =
+    subst (λ (p : ℕ). Served p turns policies given.table status usable before after was now old new) port-is by_server in
+    subst (λ (k : Option (List Keeping)). Served port turns policies given.table status usable before after k now old new) kept-is by_port
 
 -- ---- where it serves
 
@@ -112,18 +114,32 @@ some_host : (given : Option (List ℕ)) (host : ℕ) → HasHost given host → 
 some_host None host is never = never
 some_host (Some address) host is never = never host is
 
--- a server at the host of the address that was given
-pub serve_ran : (arguments : ServeArguments) (status host : ℕ) (old new : Option (List ℕ)) → HasHost (given_address arguments) host → (status ≡ 0) ⊎ (status ≡ 2)
-    → ServedFrom arguments status old new → ServeRan arguments status old new
-serve_ran arguments status host old new is few served = record {
-  bad =
-      (λ one. absurd (⊎_elim (λ zero_is. omega (arith, one, zero_is)) (λ two_is. omega (arith, one, two_is)) few), λ never. absurd (some_host (given_address arguments) host is never));
-  nowhere = λ one. absurd (⊎_elim (λ zero_is. omega (arith, one, zero_is)) (λ two_is. omega (arith, one, two_is)) few);
-  served = λ other. served;
-}
+-- hosts that were given are a list
+some_putters : (given : Option (List ℕ)) (putters : Putters) → HasPutters given putters → IsNoPutters given → ⊥
+some_putters None putters are never = never
+some_putters (Some text) putters are never = never are.0 are.1
 
--- nothing is served at a text that is no address
-pub serve_nowhere : (arguments : ServeArguments) (status : ℕ) (held : Option (List ℕ)) → status ≡ 1 → IsNoHost (given_address arguments) → ServeRan arguments status held held
+-- a server that served, or was not loaded, ends with status 0 or 2
+served_few : (arguments : ServeArguments) (status : ℕ) (old new : Option (List ℕ)) → ServedFrom arguments status old new → (status ≡ 0) ⊎ (status ≡ 2)
+served_few arguments status old new served = ⊎_elim (λ serves. serves.5.few) (λ unloaded. inr unloaded.0) served
+
+-- a server at the host of the address that was given, by the policies that were
+pub serve_ran : (arguments : ServeArguments) (status host : ℕ) (policies : Policies) (old new : Option (List ℕ)) → HasHost (given_address arguments) host →
+    HasPolicies arguments policies → ServedFrom arguments status old new → ServeRan arguments status old new
+serve_ran arguments status host policies old new is has served =
+    let few = served_few arguments status old new served in
+    record {
+      bad =
+          (
+            λ one. absurd (⊎_elim (λ zero_is. omega (arith, one, zero_is)) (λ two_is. omega (arith, one, two_is)) few),
+            λ never. absurd (⊎_elim (some_host (given_address arguments) host is) (some_putters (given_putters arguments) policies.putters has.putters_are) never),
+          );
+      nowhere = λ one. absurd (⊎_elim (λ zero_is. omega (arith, one, zero_is)) (λ two_is. omega (arith, one, two_is)) few);
+      served = λ other. served;
+    }
+
+-- nothing is served at a text that is no address, or for hosts that are no list
+pub serve_nowhere : (arguments : ServeArguments) (status : ℕ) (held : Option (List ℕ)) → status ≡ 1 → IsNoHost (given_address arguments) ⊎ IsNoPutters (given_putters arguments) → ServeRan arguments status held held
 serve_nowhere arguments status held one never = record { bad = (λ is. never, λ is. one); nowhere = λ is. refl; served = λ other. absurd (other one) }
 
 -- ---- turns and rounds

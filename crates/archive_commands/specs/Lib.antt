@@ -1,4 +1,5 @@
 pub mod Address
+pub mod Hosts
 pub mod Arguments
 pub mod Faults
 pub mod Known

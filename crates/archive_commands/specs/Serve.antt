@@ -14,7 +14,11 @@ use Rattle.archive_commands.specs.declared.turn_limit.TurnLimit.TheVariants.{Tur
 use Rattle.archive_commands.specs.declared.serve.ServeArguments.{ServeArguments}
 use Rattle.archive_commands.specs.declared.limits.TheConstants.{PER_HOST, TURNS}
 use Rattle.command_line.specs.declared.tool_fault.ToolFault.{ToolFault}
+use Rattle.archive_server.specs.declared.policies.Policies.{Policies}
+use Rattle.archive_server.specs.declared.putters.Putters.{Putters}
+use Rattle.archive_server.specs.declared.putters.Putters.TheVariants.{All, Hosts}
 use Rattle.archive_commands.specs.Address.{IsAddress, IsNoAddress}
+use Rattle.archive_commands.specs.Hosts.{IsNoList, ListsHosts}
 use Rattle.command_line.specs.Arguments.{HasFlag}
 use Rattle.archive_commands.specs.Arguments.{HasNumber, NumberOption, number_rule, port_option}
 use Rattle.archive_commands.specs.Lines.{LineFails, serving_line, taken_line}
@@ -38,6 +42,9 @@ text_rule name = record (new_rule name) { long = Some name; value_names = 1 }
 abbrev pub bound_rule : Rule
 bound_rule = text_rule (codes "address")
 
+abbrev pub put_from_rule : Rule
+put_from_rule = text_rule (codes "put-from")
+
 abbrev pub dir_rule : Rule
 dir_rule = text_rule (codes "dir")
 
@@ -52,11 +59,11 @@ abbrev pub numbers_app : App
 numbers_app =
     with_rule (with_rule (with_rule (with_rule (new_app serve_name) (number_rule port_option)) (number_rule turns_option)) (number_rule per_host_option)) (number_rule limit_option)
 
--- with the options that say where it serves, and what keeps the collections
+-- with the options that say where it serves, who may put, and what keeps the collections
 abbrev pub places_app : App
-places_app = with_rule (with_rule numbers_app bound_rule) dir_rule
+places_app = with_rule (with_rule (with_rule numbers_app bound_rule) put_from_rule) dir_rule
 
--- `serve [--port N] [--turns N] [--per-host N] [--limit BYTES] [--address A.B.C.D] [--dir DIR] [--log] [--history DIR]`
+-- `serve [--port N] [--turns N] [--per-host N] [--limit BYTES] [--address A.B.C.D] [--put-from A.B.C.D[,A.B.C.D..]] [--dir DIR] [--log] [--history DIR]`
 abbrev pub serve_app : App
 serve_app = with_rule (with_rule places_app log_rule) history_rule
 
@@ -67,6 +74,7 @@ pub record AsksToServe (rows : List Row) (arguments : ServeArguments) : Type 0 w
   pub per_host_is : HasNumber per_host_option rows arguments.per_host
   pub limit_is : HasNumber limit_option rows arguments.limit
   pub address_is : option_map string_bytes arguments.address ≡ first_of bound_rule.id rows
+  pub put_from_is : option_map string_bytes arguments.put_from ≡ first_of put_from_rule.id rows
   pub dir_is : option_map string_bytes arguments.dir ≡ first_of dir_rule.id rows
   pub log_is : HasFlag log_rule rows arguments.log
   pub history_is : option_map string_bytes arguments.history ≡ first_of history_rule.id rows
@@ -136,23 +144,23 @@ ServiceRuns usable log limit old new first last before after taken =
 abbrev pub IsLimitFor : (turns : ℕ) → TurnLimit → Type 0
 IsLimitFor turns limit = ((turns < TURNS) × (limit ≡ Turns turns)) ⊎ ((TURNS ≤ turns) × (limit ≡ Rounds (2 ^ 64 - 1)))
 
--- a server that began with this table made its turns or rounds, in which one host had at most so many transfers: what was
--- kept before and after, and how many files were taken
-pub record ServerServed (turns per_host : ℕ) (start : Table) (usable : Bool) (before after : Option (List Entry)) (kept now : Option (List Keeping)) (taken : ℕ) : Type 0 where
+-- a server that began with this table made its turns or rounds, by these policies: what was kept before and after, and how
+-- many files were taken
+pub record ServerServed (turns : ℕ) (policies : Policies) (start : Table) (usable : Bool) (before after : Option (List Entry)) (kept now : Option (List Keeping)) (taken : ℕ) : Type 0 where
   pub first : Server
   pub last : Server
-  pub fresh : first ≡ fresh_server per_host start
+  pub fresh : first ≡ fresh_server policies start
   pub limit : TurnLimit
   pub limit_is : IsLimitFor turns limit
   pub made : RunsUpTo limit usable first last taken before after kept now
 
 -- ---- by the exit status
 
--- What `serve` on this port did that began with this table, with this many turns and transfers of one host: what its keeper
+-- What `serve` on this port did that began with this table, with this many turns and these policies: what its keeper
 -- had and has, and whether it is usable. Once it is not, the server ends with status 2.
-pub record Served (port turns per_host : ℕ) (start : Table) (status : ℕ) (usable : Bool) (before after : Option (List Entry)) (kept now : Option (List Keeping)) (old new : Option (List ℕ)) : Type 0 where
-  pub done : status ≡ 0 → (usable ≡ true) × Serves port (ServerServed turns per_host start usable before after kept now) old new
-  pub failed : status ≡ 2 → ((new ≡ old) × (now ≡ kept)) ⊎ ((e : ToolFault) × ServeFails port (now ≡ kept) (ServerServed turns per_host start usable before after kept now) old new e) ⊎ ((usable ≡ false) × Serves port (ServerServed turns per_host start usable before after kept now) old new)
+pub record Served (port turns : ℕ) (policies : Policies) (start : Table) (status : ℕ) (usable : Bool) (before after : Option (List Entry)) (kept now : Option (List Keeping)) (old new : Option (List ℕ)) : Type 0 where
+  pub done : status ≡ 0 → (usable ≡ true) × Serves port (ServerServed turns policies start usable before after kept now) old new
+  pub failed : status ≡ 2 → ((new ≡ old) × (now ≡ kept)) ⊎ ((e : ToolFault) × ServeFails port (now ≡ kept) (ServerServed turns policies start usable before after kept now) old new e) ⊎ ((usable ≡ false) × Serves port (ServerServed turns policies start usable before after kept now) old new)
   pub few : (status ≡ 0) ⊎ (status ≡ 2)
 
 -- ---- where it serves
@@ -180,14 +188,33 @@ abbrev pub StartsFrom : (dir : Option (List ℕ)) → (port : ℕ) → Table →
 StartsFrom None port start = start ≡ empty_table port
 StartsFrom (Some dir) port start = HasLoaded port None start
 
--- a server began with such a table and served, or none was loaded
+-- what was given for the hosts that may put
+abbrev pub given_putters : ServeArguments → Option (List ℕ)
+given_putters arguments = option_map string_bytes arguments.put_from
+
+-- the hosts that may put: those of the list that was given, every one if none was
+abbrev pub HasPutters : Option (List ℕ) → Putters → Type 0
+HasPutters None putters = putters ≡ All
+HasPutters (Some text) putters = (hosts : List ℕ) × ListsHosts text hosts × (putters ≡ Hosts hosts)
+
+-- what was given is no list of hosts
+abbrev pub IsNoPutters : Option (List ℕ) → Type 0
+IsNoPutters None = ⊥
+IsNoPutters (Some text) = IsNoList text
+
+-- which requests are to be let in
+pub record HasPolicies (arguments : ServeArguments) (policies : Policies) : Type 0 where
+  pub per_host_is : policies.per_host ≡ arguments.per_host
+  pub putters_are : HasPutters (given_putters arguments) policies.putters
+
+-- a server began with such a table and served by the policies that were asked for, or none was loaded
 abbrev pub ServedFrom : ServeArguments → (status : ℕ) → (old new : Option (List ℕ)) → Type 0
 ServedFrom arguments status old new =
-    ((usable : Bool) × (start : Table) × StartsFrom (given_dir arguments) arguments.port start × Served arguments.port arguments.turns arguments.per_host start status usable None None None None old new)
+    ((usable : Bool) × (start : Table) × (policies : Policies) × HasPolicies arguments policies × StartsFrom (given_dir arguments) arguments.port start × Served arguments.port arguments.turns policies start status usable None None None None old new)
     ⊎ ((status ≡ 2) × (new ≡ old))
 
 -- what it did
 pub record ServeRan (arguments : ServeArguments) (status : ℕ) (old new : Option (List ℕ)) : Type 0 where
-  pub bad : (status ≡ 1) ↔ IsNoHost (given_address arguments)
+  pub bad : (status ≡ 1) ↔ (IsNoHost (given_address arguments) ⊎ IsNoPutters (given_putters arguments))
   pub nowhere : status ≡ 1 → new ≡ old
   pub served : status ≢ 1 → ServedFrom arguments status old new

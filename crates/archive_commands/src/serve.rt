@@ -31,6 +31,8 @@ pub struct ServeArguments {
     pub limit: u64,
     /// The address of this host to listen at, as it was typed; every address if `None`.
     pub address: Option<String>,
+    /// The addresses of the hosts that may put, with commas between them; every host if `None`.
+    pub put_from: Option<String>,
     /// The folder that keeps the collections, if any.
     pub dir: Option<String>,
     /// Whether each event is logged to standard error.
@@ -139,7 +141,7 @@ const ABOUT: &str = "Serve the archive by TFTP";
 const HELP: &str =
     "Takes files that are sent, and serves lynx.tws and ms.tws, until it is stopped.\n\nExample: tws serve --dir /var/lib/tws";
 
-// The command with the options that say where it serves, and what keeps the collections.
+// The command with the options that say where it serves, who may put, and what keeps the collections.
 fn places_command<'a>(alloc: Global) -> Result<Command<'a>, AllocError>
     ensures app { IfOk result (λ command. app_of command ≡ places_app) }
     ensures local { IfOk result (λ command. (out-Command command).has_globals ≡ false) }
@@ -150,6 +152,12 @@ fn places_command<'a>(alloc: Global) -> Result<Command<'a>, AllocError>
             "address",
             "ADDRESS",
             "This IPv4 address of this host, every one if none is given",
+        ))?
+        .arg(text_argument(
+            alloc,
+            "put-from",
+            "ADDRESS,..",
+            "Take puts from these hosts alone, 16 at most",
         ))?
         .arg(text_argument(alloc, "dir", "DIR", "The folder that keeps the collections"))
 }
@@ -190,6 +198,7 @@ pub fn asked(alloc: Global, words: &ArgMatches) -> Result<Option<ServeArguments>
         return Ok(None);
     };
     let address = string_given(alloc, words, "address")?;
+    let put_from = string_given(alloc, words, "put-from")?;
     let dir = string_given(alloc, words, "dir")?;
     let log = flag_given(words, "log");
     let history = string_given(alloc, words, "history")?;
@@ -199,6 +208,7 @@ pub fn asked(alloc: Global, words: &ArgMatches) -> Result<Option<ServeArguments>
         per_host,
         limit,
         address,
+        put_from,
         dir,
         log,
         history,

@@ -9,7 +9,7 @@ use crate::line::write_line;
 use crate::serve::ServeArguments;
 use crate::turn_limit::TurnLimit;
 use archive_keepers::ServedKeeper;
-use archive_server::{Server, ServerObserver};
+use archive_server::{Policies, Server, ServerObserver};
 use archive_wire::ReadyWire;
 use command_line::{FAILED, ToolFault, finish};
 use std::alloc::Global;
@@ -57,20 +57,22 @@ fn end_serving<E: Write>(
 }
 
 impl<'a, K: ServedKeeper, O: ServerObserver> Service<'a, K, O> {
-    /// A service by this server, as it was asked for, at this address of this host. No turn was made yet.
+    /// A service by this server, as it was asked for, at this address of this host and by these policies. No turn was made
+    /// yet.
     pub fn new(
         arguments: &'a ServeArguments,
         host: u32,
+        policies: Policies,
         mut server: Server,
         keeper: K,
         observer: O,
     ) -> Self
-        ensures server { result.server ≡ record server { per_host = arguments.now.per_host } }
+        ensures server { result.server ≡ record server { policies = policies } }
         ensures keeper { result.keeper ≡ keeper }
         ensures observer { result.observer ≡ observer }
         ensures limit { IsLimitFor arguments.now.turns result.limit }
     {
-        server.limit_per_host(arguments.per_host as usize);
+        server.set_policies(policies);
         Service {
             server,
             keeper,
@@ -162,8 +164,8 @@ impl<'a, K: ServedKeeper, O: ServerObserver> Service<'a, K, O> {
         out: &mut W,
         errors: &mut E,
     ) -> u8
-        requires fresh { self.old.server ≡ fresh_server self.old.server.per_host self.old.server.table }
-        ensures served { (turns : ℕ) → IsLimitFor turns self.old.limit → Served self.old.server.table.request turns self.old.server.per_host self.old.server.table result (K.usable self.new.keeper) (N.calls wire.old) (N.calls wire.new) (K.calls self.old.keeper) (K.calls self.new.keeper) (W.contents out.old) (W.contents out.new) }
+        requires fresh { self.old.server ≡ fresh_server self.old.server.policies self.old.server.table }
+        ensures served { (turns : ℕ) → IsLimitFor turns self.old.limit → Served self.old.server.table.request turns self.old.server.policies self.old.server.table result (K.usable self.new.keeper) (N.calls wire.old) (N.calls wire.new) (K.calls self.old.keeper) (K.calls self.new.keeper) (W.contents out.old) (W.contents out.new) }
         ensures silent { result ≡ 0 → errors.new ≡ errors.old }
     {
         let done = self.serve(alloc, wire, out);

@@ -18,6 +18,8 @@ use Rattle.tws_file.specs.declared.«ruleset».Ruleset.{Ruleset}
 use Rattle.tws_file.specs.declared.«ruleset».Ruleset.TheVariants.{Lynx, Ms}
 use Rattle.tws_file.specs.declared.file_fault.FileFault.{FileFault}
 use Rattle.tws_file.specs.declared.file_fault.FileFault.TheVariants as fault
+use Rattle.archive_server.specs.declared.drop_cause.DropCause.{DropCause}
+use Rattle.archive_server.specs.declared.drop_cause.DropCause.TheVariants.{ManyTransfers, NotPutter}
 use Rattle.archive_table.specs.declared.step_event.FailureCause.{FailureCause}
 use Rattle.archive_table.specs.declared.step_event.FailureCause.TheVariants.{Refused, PeerError, TimedOut}
 use Rattle.archive_history.specs.declared.history_fault.HistoryFault.{HistoryFault}
@@ -27,7 +29,7 @@ use Rattle.archive_log.specs.declared.log_event.LogEvent.TheVariants as event
 use Rattle.byte_output.specs.Printable.{IsPrintable, shown, shown_byte}
 use Rattle.tws_file.specs.Words.{ruleset_name}
 use Rattle.archive_history.specs.HistoryFault.{history_fault_text}
-use Rattle.archive_log.specs.Lines.{peer_text, ruleset_text, fault_text, cause_text, message_of, level_of, folder_pairs, pairs_of, timed_pairs, line_of}
+use Rattle.archive_log.specs.Lines.{peer_text, ruleset_text, fault_text, cause_text, drop_text, message_of, level_of, folder_pairs, pairs_of, timed_pairs, line_of}
 
 -- ---- texts
 
@@ -156,6 +158,10 @@ rules_key rules = (word (codes "ruleset") refl, name_plain rules)
 cause_key : (why : FailureCause) → Plain (codes "why") × Plain (cause_text why)
 cause_key why = (word (codes "why") refl, cause_plain why)
 
+drop_plain : (why : DropCause) → Plain (drop_text why)
+drop_plain ManyTransfers = word (codes "too many transfers of its host") refl
+drop_plain NotPutter = word (codes "not allowed to put") refl
+
 folder_plain : (folder : Option (List ℕ)) → PlainPairs (folder_pairs folder)
 folder_plain None = tt
 folder_plain (Some text) = ((word (codes "folder") refl, shown_plain text), tt)
@@ -164,7 +170,7 @@ event_plain : (e : LogEvent) → PlainPairs (pairs_of e)
 event_plain (event.Started at lynx ms folder) =
     ((word (codes "at") refl, peer_plain at), (number_key (codes "lynx") refl lynx, (number_key (codes "ms") refl ms, folder_plain (option_map (λ f. f.now) folder))))
 event_plain (event.Refused peer why) = (peer_key peer, ((word (codes "why") refl, shown_plain (refusal_text why)), tt))
-event_plain (event.Dropped peer) = (peer_key peer, ((word (codes "why") refl, word (codes "too many transfers of its host") refl), tt))
+event_plain (event.Dropped peer why) = (peer_key peer, ((word (codes "why") refl, drop_plain why), tt))
 event_plain (event.Taken upload millis) = (
   peer_key upload.peer,
   (
@@ -200,7 +206,7 @@ header_plain level.Trace = word (header_text level.Trace (codes "tws")) refl
 message_plain : (e : LogEvent) → Plain (message_of e)
 message_plain (event.Started at lynx ms folder) = word (codes "started") refl
 message_plain (event.Refused peer why) = word (codes "request refused") refl
-message_plain (event.Dropped peer) = word (codes "request dropped") refl
+message_plain (event.Dropped peer why) = word (codes "request dropped") refl
 message_plain (event.Taken upload millis) = word (codes "put taken") refl
 message_plain (event.PutFailed peer block why) = word (codes "put failed") refl
 message_plain (event.GetFailed peer rules block why) = word (codes "get failed") refl

@@ -13,6 +13,8 @@ use Rattle.tws_file.specs.declared.«ruleset».Ruleset.{Ruleset}
 use Rattle.tws_file.specs.declared.file_fault.FileFault.{FileFault}
 use Rattle.tws_file.specs.declared.file_fault.FileFault.TheVariants as fault
 use Rattle.tws_file.specs.Words.{ruleset_name}
+use Rattle.archive_server.specs.declared.drop_cause.DropCause.{DropCause}
+use Rattle.archive_server.specs.declared.drop_cause.DropCause.TheVariants.{ManyTransfers, NotPutter}
 use Rattle.archive_table.specs.declared.step_event.FailureCause.{FailureCause}
 use Rattle.archive_table.specs.declared.step_event.FailureCause.TheVariants.{Refused, PeerError, TimedOut}
 use Rattle.byte_output.specs.Printable.{shown}
@@ -46,12 +48,17 @@ cause_text (Refused why) = shown (refusal_text why)
 cause_text PeerError = codes "error from the peer"
 cause_text TimedOut = codes "timed out"
 
+-- why a request was dropped
+abbrev pub drop_text : DropCause → List ℕ
+drop_text ManyTransfers = codes "too many transfers of its host"
+drop_text NotPutter = codes "not allowed to put"
+
 -- ---- lines
 
 abbrev pub message_of : LogEvent → List ℕ
 message_of (event.Started at lynx ms folder) = codes "started"
 message_of (event.Refused peer why) = codes "request refused"
-message_of (event.Dropped peer) = codes "request dropped"
+message_of (event.Dropped peer why) = codes "request dropped"
 message_of (event.Taken upload millis) = codes "put taken"
 message_of (event.PutFailed peer block why) = codes "put failed"
 message_of (event.GetFailed peer rules block why) = codes "get failed"
@@ -72,7 +79,7 @@ taken_level (Some e) = level.Warn
 abbrev pub level_of : LogEvent → Level
 level_of (event.Started at lynx ms folder) = level.Info
 level_of (event.Refused peer why) = level.Warn
-level_of (event.Dropped peer) = level.Warn
+level_of (event.Dropped peer why) = level.Warn
 level_of (event.Taken upload millis) = taken_level upload.fault
 level_of (event.PutFailed peer block why) = failed_level why
 level_of (event.GetFailed peer rules block why) = level.Warn
@@ -90,7 +97,7 @@ abbrev pub pairs_of : LogEvent → List Pair
 pairs_of (event.Started at lynx ms folder) =
     (codes "at", peer_text at) ∷ (codes "lynx", decimal lynx) ∷ (codes "ms", decimal ms) ∷ folder_pairs (option_map (λ f. f.now) folder)
 pairs_of (event.Refused peer why) = (codes "peer", peer_text peer) ∷ (codes "why", shown (refusal_text why)) ∷ []
-pairs_of (event.Dropped peer) = (codes "peer", peer_text peer) ∷ (codes "why", codes "too many transfers of its host") ∷ []
+pairs_of (event.Dropped peer why) = (codes "peer", peer_text peer) ∷ (codes "why", drop_text why) ∷ []
 pairs_of (event.Taken upload millis) =
     (codes "peer", peer_text upload.peer) ∷ (codes "bytes", decimal upload.bytes) ∷ (codes "ruleset", ruleset_text upload.«ruleset»)
     ∷ (codes "fault", fault_text upload.fault) ∷ (codes "better", decimal upload.better) ∷ (codes "millis", decimal millis) ∷ []

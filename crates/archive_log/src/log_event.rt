@@ -5,6 +5,7 @@ ghost use Rattle.archive_log.specs.Lines.{message_of, level_of, taken_level, fai
 
 use crate::upload::Upload;
 use archive_history::HistoryFault;
+use archive_server::DropCause;
 use archive_table::FailureCause;
 use log::Level;
 use tftp_packet::{Endpoint, Refusal};
@@ -26,9 +27,10 @@ pub enum LogEvent<'a> {
         peer: Endpoint,
         why: Refusal,
     },
-    /// A request was dropped: its host has as many transfers as it may have.
+    /// A request was dropped.
     Dropped {
         peer: Endpoint,
+        why: DropCause,
     },
     /// A put was taken, `millis` milliseconds after its request.
     Taken {

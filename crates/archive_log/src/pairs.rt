@@ -2,13 +2,14 @@
 
 ghost use Rattle.std.specs.Prelude.{◌≡◌, ◌∷◌, [], codes, decimal, option_map, OnOk, IfSome};
 ghost use Rattle.std.specs.List.{FoldsTo};
-ghost use Rattle.archive_log.specs.Lines.{pairs_of, folder_pairs, peer_text, ruleset_text, fault_text, cause_text};
+ghost use Rattle.archive_log.specs.Lines.{pairs_of, folder_pairs, peer_text, ruleset_text, fault_text, cause_text, drop_text};
 
 use crate::cause_words::CauseWords;
 use crate::log_event::LogEvent;
 use crate::peer::peer_address;
 use crate::upload::Upload;
 use archive_history::HistoryFault;
+use archive_server::DropCause;
 use archive_table::FailureCause;
 use byte_output::Printable;
 use log::kv;
@@ -123,11 +124,25 @@ fn visit_refused<V: VisitSource>(
     visit_pair(visitor, "why", &display(Printable::of(why.text())))
 }
 
-fn visit_dropped<V: VisitSource>(visitor: &mut V, peer: Endpoint) -> Result<(), kv::Error>
-    ensures { OnOk result (FoldsTo V.visit_pair_gives visitor.old (pairs_of (LogEvent.Dropped peer)) visitor.new) }
+// Why a request was dropped, in words.
+fn drop_words(why: DropCause) -> &'static str
+    ensures { result.now ≡ drop_text why }
+{
+    match why {
+        DropCause::ManyTransfers => "too many transfers of its host",
+        DropCause::NotPutter => "not allowed to put",
+    }
+}
+
+fn visit_dropped<V: VisitSource>(
+    visitor: &mut V,
+    peer: Endpoint,
+    why: DropCause,
+) -> Result<(), kv::Error>
+    ensures { OnOk result (FoldsTo V.visit_pair_gives visitor.old (pairs_of (LogEvent.Dropped peer why)) visitor.new) }
 {
     visit_peer(visitor, peer)?;
-    visit_pair(visitor, "why", &"too many transfers of its host")
+    visit_pair(visitor, "why", &drop_words(why))
 }
 
 fn visit_taken<V: VisitSource>(
@@ -230,7 +245,7 @@ impl Source for LogEvent<'_> {
                 folder,
             } => visit_started(visitor, *at, *lynx, *ms, *folder),
             LogEvent::Refused { peer, why } => visit_refused(visitor, *peer, *why),
-            LogEvent::Dropped { peer } => visit_dropped(visitor, *peer),
+            LogEvent::Dropped { peer, why } => visit_dropped(visitor, *peer, *why),
             LogEvent::Taken { upload, millis } => visit_taken(visitor, upload, *millis),
             LogEvent::PutFailed { peer, block, why } => visit_put_failed(
                 visitor, *peer, *block, *why,

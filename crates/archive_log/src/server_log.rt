@@ -11,7 +11,7 @@ use crate::log_event::LogEvent;
 use crate::log_line::LogLine;
 use crate::logged_transfers::LoggedTransfers;
 use archive_history::{HistoryFault, Stamp, record as record_in, stem_of};
-use archive_server::ServerObserver;
+use archive_server::{DropCause, ServerObserver};
 use archive_table::{Merged, Observer, Step, StepEvent, Table, Taken};
 use folders::Folder;
 use log::Log;
@@ -232,10 +232,10 @@ impl<C: Clock, L: Log, H: Folder, A: Allocator + Copy> ServerObserver for Server
         self.report_now(started_event(at, folder, table));
     }
 
-    fn on_dropped(&mut self, from: Endpoint)
+    fn on_dropped(&mut self, from: Endpoint, why: DropCause)
         ensures same { self.new ≡ self.old }
     {
-        self.report_now(LogEvent::Dropped { peer: from });
+        self.report_now(LogEvent::Dropped { peer: from, why });
     }
 
     fn on_stopped(&mut self)

@@ -38,8 +38,8 @@ meanwhile-reached o (others before move leaves) reached = archive.more (meanwhil
 
 -- the server stays where it is
 home-stays : {a b : Archive} {added : List Member} → Moves a b added → b.home ≡ a.home
-home-stays (server_turns a last timers per_host new took calls now t brings) = refl
-home-stays (server_rounds a last timers per_host new took calls now t brings) = refl
+home-stays (server_turns a last timers policies new took calls now t brings) = refl
+home-stays (server_rounds a last timers policies new took calls now t brings) = refl
 home-stays (server_restarts a maps now loaded) = refl
 home-stays (server_ends a mode port from bytes timers left new took calls now later p t maps came refused wanted brings finds) = refl
 home-stays (client_begins a host operation port replies r away is) = refl
@@ -63,8 +63,8 @@ client-left e (others before move leaves) = leaves ∙ client-left e before
 
 -- what has begun stays
 begun-stays : {a b : Archive} {added : List Member} → Moves a b added → (x : Begun) → Has a.begun x → Has b.begun x
-begun-stays (server_turns a last timers per_host new took calls now t brings) x has = has
-begun-stays (server_rounds a last timers per_host new took calls now t brings) x has = has
+begun-stays (server_turns a last timers policies new took calls now t brings) x has = has
+begun-stays (server_rounds a last timers policies new took calls now t brings) x has = has
 begun-stays (server_restarts a maps now loaded) x has = has
 begun-stays (server_ends a mode port from bytes timers left new took calls now later p t maps came refused wanted brings finds) x has = has
 begun-stays (client_begins a host operation port replies r away is) x has = Has-prefix a.begun _ x (IsPrefix-push a.begun _) has
@@ -93,7 +93,7 @@ turn-moves {old} {new} {took} {calls} {kept} {now} t a server keeper brings =
     let Moved : Table → Option (List Keeping) → Type 0 =
     λ s k. Brings a.home.host calls (with_server a s k) → Moves (with_server a s k) (after_server new.table visit.taken calls now a) added in
     let here : Moved old.table kept =
-    λ b. server_turns (with_server a old.table kept) old.last old.timers old.per_host new took calls now t b in
+    λ b. server_turns (with_server a old.table kept) old.last old.timers old.policies new took calls now t b in
     let kept_there : Moved old.table a.kept = subst (Moved old.table) (sym keeper) here in
     subst (λ (s : Table). Moved s a.kept) (sym server) kept_there brings
 
@@ -108,7 +108,7 @@ round-moves {old} {new} {took} {calls} {kept} {now} t a server keeper brings =
     let Moved : Table → Option (List Keeping) → Type 0 =
     λ s k. Brings a.home.host calls (with_server a s k) → Moves (with_server a s k) (after_server new.table visit.taken calls now a) added in
     let here : Moved old.table kept =
-    λ b. server_rounds (with_server a old.table kept) old.last old.timers old.per_host new took calls now t b in
+    λ b. server_rounds (with_server a old.table kept) old.last old.timers old.policies new took calls now t b in
     let kept_there : Moved old.table a.kept = subst (Moved old.table) (sym keeper) here in
     subst (λ (s : Table). Moved s a.kept) (sym server) kept_there brings
 

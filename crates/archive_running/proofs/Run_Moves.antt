@@ -252,13 +252,13 @@ module _ (o : Origin) where
 
   -- any move
   moved : {a b : Archive} {members added : List Member} → Made a members → Moves a b added → Made b (members ++ added)
-  moved {members} before (server_turns a last timers per_host new took calls now t brings) =
+  moved {members} before (server_turns a last timers policies new took calls now t brings) =
       served a _ members _ before
-      (turn-makes a (trace_from members first) last timers per_host new took calls now t before.makes.shows (by_places a.home.host calls a brings))
+      (turn-makes a (trace_from members first) last timers policies new took calls now t before.makes.shows (by_places a.home.host calls a brings))
       (λ texts. turn-kept _ _ a.server new.table _ _ took calls a.kept now t.visits texts before.kept)
-  moved {members} before (server_rounds a last timers per_host new took calls now t brings) =
+  moved {members} before (server_rounds a last timers policies new took calls now t brings) =
       served a _ members _ before
-      (round-makes a (trace_from members first) last timers per_host new took calls now t before.makes.shows (by_places a.home.host calls a brings))
+      (round-makes a (trace_from members first) last timers policies new took calls now t before.makes.shows (by_places a.home.host calls a brings))
       (λ texts. turn-kept _ _ a.server new.table _ _ took _ a.kept now t.visits texts before.kept)
   moved {members} before (server_restarts a maps now has) = restarted a members maps now has before
   moved {members} before (server_ends a mode port from bytes timers left new took calls now later p t maps came refused wanted brings finds) =

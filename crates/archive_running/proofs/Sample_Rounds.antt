@@ -15,7 +15,7 @@ use Rattle.archive_wire.specs.Wire.{Entry, waited, Grows, datagram}
 use Rattle.archive_server.specs.declared.mode.Mode.{Mode}
 use Rattle.archive_server.specs.declared.mode.Mode.TheVariants.{Round}
 use Rattle.archive_server.specs.Timers.{timers_after, is_quiet, late_ports, earliest}
-use Rattle.archive_server.specs.Turn.{Answers, Server, IsRound, Visited, Walk, KeepsAsked, next_asks, next_admits, next_visit, ready_next, walk_after, noted_or}
+use Rattle.archive_server.specs.Turn.{Answers, Server, IsRound, Visited, Walk, KeepsAsked, next_asks, next_admits, next_visit, ready_next, walk_after, noted_or, open_policies}
 use Rattle.archive_runs.specs.Run.{Run, RunAnswers, IsRunTurn, run_turn, Runs, begin_opened, Begins, RunsPut}
 use Rattle.archive_runs.specs.Run as runs
 use Rattle.archive_model.specs.World.{server_endpoint}
@@ -36,10 +36,10 @@ use Rattle.archive_running.proofs.Sample_Turns.{from_nothing, none-loads, brings
 -- ---- one round, in which no port times out
 
 abbrev before : Archive → Server
-before a = server_in 0 [] 32 a
+before a = server_in 0 [] open_policies a
 
 abbrev mode : Mode
-mode = Round 0 None 32
+mode = Round 0 None open_policies
 
 abbrev pub visited : (port : ℕ) → Archive → Answers → Visited
 visited port a answers = next_visit (ready_next (Some port) a.server) answers a.server
@@ -49,7 +49,7 @@ ended port a answers = walk_after mode (visited port a answers) [] []
 
 abbrev pub after : (port : ℕ) → Archive → Answers → Server
 after port a answers =
-    record { table = (ended port a answers).server; last = noted_or 0 (Some port); timers = (ended port a answers).timers; per_host = 32 }
+    record { table = (ended port a answers).server; last = noted_or 0 (Some port); timers = (ended port a answers).timers; policies = open_policies }
 
 abbrev pub calls_of : (port : ℕ) → Archive → Answers → List Entry
 calls_of port a answers = waited 0 (earliest []) (Some port) 0 None ∷ ((visited port a answers).calls ++ (ended port a answers).calls)
@@ -69,7 +69,7 @@ a_round port a answers now merges keeps late let_in =
       visits = a_visit mode (ready_next (Some port) a.server) a.server answers a.kept now merges keeps late let_in;
       calls_are = refl;
       last = refl;
-      per_host = refl;
+      policies = refl;
     }
 
 abbrev pub rounded : (port : ℕ) → Archive → Answers → (now : Option (List Keeping)) → Archive
@@ -165,7 +165,7 @@ opens_put : Moves first opened (round_members 6969 first (request 2 4000 hundred
 unfolding encode decode_bytes block_of
 opens_put =
     let answers = request 2 4000 hundred in
-    server_rounds first 0 [] 32 (after 6969 first answers) _ (calls_of 6969 first answers) nothing_kept
+    server_rounds first 0 [] open_policies (after 6969 first answers) _ (calls_of 6969 first answers) nothing_kept
     (a_round 6969 first answers nothing_kept refl refl refl refl)
     (brings_at server_endpoint.host (calls_of 6969 first answers) first _ 0 refl refl)
 
@@ -182,7 +182,7 @@ changes e = let entries : (sample_maps 100).lynx.entries ≡ [] = ap (λ (c : Co
 takes : Moves bound taken (round_members 4000 bound block)
 unfolding encode decode_bytes block_of
 takes =
-    server_rounds bound 0 [] 32 (after 4000 bound block) _ (calls_of 4000 bound block) kept
+    server_rounds bound 0 [] open_policies (after 4000 bound block) _ (calls_of 4000 bound block) kept
     (a_round 4000 bound block kept hundred-first (inl (refl, inr (changes, refl))) refl refl)
     (brings_at server_endpoint.host (calls_of 4000 bound block) bound _ 2 refl refl)
 
@@ -355,7 +355,7 @@ opens_get : Moves second served (round_members 6969 second (request 3 4001 lynx)
 unfolding encode decode_bytes block_of
 opens_get =
     let answers = request 3 4001 lynx in
-    server_rounds second 0 [] 32 (after 6969 second answers) _ (calls_of 6969 second answers) kept (a_round 6969 second answers kept refl refl refl refl)
+    server_rounds second 0 [] open_policies (after 6969 second answers) _ (calls_of 6969 second answers) kept (a_round 6969 second answers kept refl refl refl refl)
     (brings_at server_endpoint.host (calls_of 6969 second answers) second _ 4 refl refl)
 
 gets : Moves served fetched (client_members whole 3 (asking lynx))

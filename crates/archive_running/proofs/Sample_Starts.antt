@@ -19,6 +19,7 @@ use Rattle.archive_theorem.specs.Headline.{IsOwn}
 use Rattle.archive_theorem.proofs.Keeper_Loads.{loads_itself}
 use Rattle.archive_theorem.proofs.Port_Endpoints.{own-if}
 use Rattle.archive_theorem.proofs.Sample_Files.{sample_collected_100}
+use Rattle.archive_server.specs.Turn.{open_policies}
 use Rattle.archive_running.specs.Members.{client_members, does}
 use Rattle.archive_running.specs.Archive.{Archive, idle, after_begin, after_client_turn, Moves, server_rounds, client_begins, client_turns, Reaches, reported, more, ArchiveRun, world_of}
 use Rattle.archive_running.specs.Starts.{StartsFrom, CanStart}
@@ -87,7 +88,7 @@ opens : Moves begun served (round_members 69 begun (request 3 4001 lynx))
 unfolding encode decode_bytes block_of
 opens =
     let answers = request 3 4001 lynx in
-    server_rounds begun 0 [] 32 (after 69 begun answers) _ (calls_of 69 begun answers) kept (a_round 69 begun answers kept refl refl refl refl)
+    server_rounds begun 0 [] open_policies (after 69 begun answers) _ (calls_of 69 begun answers) kept (a_round 69 begun answers kept refl refl refl refl)
     (brings_at 7 (calls_of 69 begun answers) begun _ 0 refl refl)
 
 gets : Moves served fetched (client_members whole 3 asking)

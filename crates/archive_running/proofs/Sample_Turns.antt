@@ -18,7 +18,7 @@ use Rattle.archive_server.specs.declared.mode.Mode.{Mode}
 use Rattle.archive_server.specs.declared.mode.Mode.TheVariants.{Turn}
 use Rattle.archive_server.specs.declared.next.Next.{Next}
 use Rattle.archive_server.specs.Timers.{timers_after, is_quiet, late_ports}
-use Rattle.archive_server.specs.Turn.{IsTurnIn, Answers, Server, IsTurn, Visited, KeepsAsked, next_asks, next_admits, next_visit, turn_next, walk_after, noted}
+use Rattle.archive_server.specs.Turn.{IsTurnIn, Answers, Server, IsTurn, Visited, KeepsAsked, next_asks, next_admits, next_visit, turn_next, walk_after, noted, open_policies}
 use Rattle.archive_runs.specs.Run.{Run, RunAnswers, run_turn, begin_opened}
 use Rattle.archive_model.specs.World.{Datagram, Origin, empty_origin, server_endpoint}
 use Rattle.archive_theorem.specs.Traces.{Member, starts}
@@ -70,7 +70,7 @@ a_visit mode next table answers kept now merges keeps late let_in =
 
 -- a server that has visited the request port last, and in whose turn no port times out
 abbrev before : Archive → Server
-before a = server_in 0 [] 0 a
+before a = server_in 0 [] open_policies a
 
 -- its visit, with these answers
 abbrev visited : Archive → Answers → Visited
@@ -83,7 +83,7 @@ after a answers =
       table = (walk_after Turn (visited a answers) [] []).server;
       last = noted (port_above 0 a.server);
       timers = (walk_after Turn (visited a answers) [] []).timers;
-      per_host = 0;
+      policies = open_policies;
     }
 
 -- the calls of the wire in it
@@ -112,7 +112,7 @@ a_turn a answers merges keeps late let_in =
     record {
       visits = a_visit Turn (turn_next (before a)) a.server answers nothing_kept nothing_kept merges keeps late let_in;
       last = refl;
-      per_host = refl;
+      policies = refl;
     }
 
 -- the archive after that turn
@@ -238,7 +238,7 @@ unfolding encode decode_bytes block_of
 opens_put =
     let a = begun empty in
     let answers = request empty in
-    server_turns a 0 [] 0 (after a answers) _ (calls_of a answers) nothing_kept (a_turn a answers refl refl refl refl)
+    server_turns a 0 [] open_policies (after a answers) _ (calls_of a answers) nothing_kept (a_turn a answers refl refl refl refl)
     (brings_at server_endpoint.host (calls_of a answers) a _ 0 refl refl)
 
 -- the client binds to the port and sends its block
@@ -255,7 +255,7 @@ takes : Moves (received empty first_ack) taken (server_members (received empty f
 unfolding encode decode_bytes block_of
 takes =
     let a = received empty first_ack in
-    server_turns a 0 [] 0 (after a last_block) _ (calls_of a last_block) nothing_kept
+    server_turns a 0 [] open_policies (after a last_block) _ (calls_of a last_block) nothing_kept
     (a_turn a last_block empty_merged
     (keeps_all all (Some (record { peer = here; file = [] })) empty_maps empty_maps nothing_kept nothing_kept refl refl refl) refl refl)
     (brings_at server_endpoint.host (calls_of a last_block) a _ 2 refl refl)
@@ -324,7 +324,7 @@ unfolding encode decode_bytes block_of
 opens_get =
     let a = begun lynx in
     let answers = request lynx in
-    server_turns a 0 [] 0 (after a answers) _ (calls_of a answers) nothing_kept (a_turn a answers refl refl refl refl)
+    server_turns a 0 [] open_policies (after a answers) _ (calls_of a answers) nothing_kept (a_turn a answers refl refl refl refl)
     (brings_at server_endpoint.host (calls_of a answers) a _ 0 refl refl)
 
 -- the client receives the whole file

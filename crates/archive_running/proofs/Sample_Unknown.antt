@@ -13,7 +13,7 @@ use Rattle.archive_server.specs.declared.mode.Mode.{Mode}
 use Rattle.archive_server.specs.declared.mode.Mode.TheVariants.{Round}
 use Rattle.archive_server.specs.declared.next.Next.{Next}
 use Rattle.archive_server.specs.declared.next.Next.TheVariants as next
-use Rattle.archive_server.specs.Turn.{Answers, Visited, Walk, IsTurnIn, next_visit, walk_after}
+use Rattle.archive_server.specs.Turn.{Answers, Visited, Walk, IsTurnIn, next_visit, walk_after, open_policies}
 use Rattle.archive_runs.specs.Run.{Run, RunAnswers, run_turn}
 use Rattle.archive_model.specs.World.{server_endpoint}
 use Rattle.archive_theorem.specs.Samples.{sample_file, sample_maps}
@@ -46,7 +46,7 @@ refused =
     }
 
 abbrev mode : Mode
-mode = Round 0 None 32
+mode = Round 0 None open_policies
 
 abbrev at_4000 : Next
 at_4000 = next.Transfer 4000
@@ -128,7 +128,7 @@ opens : Moves second served (round_members 6969 second (request 3 4001 lynx))
 unfolding encode decode_bytes block_of
 opens =
     let answers = request 3 4001 lynx in
-    server_rounds second 0 [] 32 (after 6969 second answers) _ (calls_of 6969 second answers) kept (a_round 6969 second answers kept refl refl refl refl)
+    server_rounds second 0 [] open_policies (after 6969 second answers) _ (calls_of 6969 second answers) kept (a_round 6969 second answers kept refl refl refl refl)
     (brings_at server_endpoint.host (calls_of 6969 second answers) second _ 4 refl refl)
 
 gets : Moves served fetched (client_members whole 3 (asking lynx))

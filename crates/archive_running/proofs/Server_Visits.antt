@@ -10,6 +10,7 @@ use Rattle.archive_table.specs.Keeper.{Keeping}
 use Rattle.archive_server.specs.declared.mode.Mode.{Mode}
 use Rattle.archive_server.specs.declared.mode.Mode.TheVariants.{Turn, Round}
 use Rattle.archive_server.specs.declared.next.Next.{Next}
+use Rattle.archive_server.specs.declared.policies.Policies.{Policies}
 use Rattle.archive_server.specs.declared.next.Next.TheVariants as next
 use Rattle.archive_server.specs.declared.timer.Timer.{Timer}
 use Rattle.archive_server.specs.Timers.{timers_after, restart}
@@ -257,14 +258,14 @@ turn_fits last (Some port) s is apart = above-apart last s apart port is
 turn_fits last None s is apart = tt
 
 -- the world makes the members of a turn
-pub turn-makes : (a : Archive) (w : World) (last : ℕ) (timers : List Timer) (per_host : ℕ) (new : Server) (took : Bool) (calls : List Entry)
-    (now : Option (List Keeping)) (t : IsTurn (server_in last timers per_host a) new took calls a.kept now) →
+pub turn-makes : (a : Archive) (w : World) (last : ℕ) (timers : List Timer) (policies : Policies) (new : Server) (took : Bool) (calls : List Entry)
+    (now : Option (List Keeping)) (t : IsTurn (server_in last timers policies a) new took calls a.kept now) →
     Shows a w → Brought a.home.host calls a →
-    let n = turn_next (server_in last timers per_host a) in
+    let n = turn_next (server_in last timers policies a) in
     Makes (after_server new.table (next_visit n t.visits.answers a.server).taken calls now a)
     (visit_members a.home.host n t.visits.answers a.server ++ late_members t.visits.late) w
-turn-makes a w last timers per_host new took calls now t h brought =
-    visit-makes a w Turn (turn_next (server_in last timers per_host a)) new.table timers new.timers took calls now t.visits
+turn-makes a w last timers policies new took calls now t h brought =
+    visit-makes a w Turn (turn_next (server_in last timers policies a)) new.table timers new.timers took calls now t.visits
     (turn_fits last (port_above last a.server) a.server refl h.apart) h brought
 
 -- a port that is not the request port
@@ -278,17 +279,17 @@ ready_fits (Some port) s = port_fits (port == s.request) port s refl
 ready_fits None s = tt
 
 -- the world makes the members of a round
-pub round-makes : (a : Archive) (w : World) (last : ℕ) (timers : List Timer) (per_host : ℕ) (new : Server) (took : Bool)
-    (calls : List Entry) (now : Option (List Keeping)) (t : IsRound (server_in last timers per_host a) new took calls a.kept now) →
+pub round-makes : (a : Archive) (w : World) (last : ℕ) (timers : List Timer) (policies : Policies) (new : Server) (took : Bool)
+    (calls : List Entry) (now : Option (List Keeping)) (t : IsRound (server_in last timers policies a) new took calls a.kept now) →
     Shows a w → Brought a.home.host calls a →
     let n = ready_next t.ready a.server in
     Makes (after_server new.table (next_visit n t.visits.answers a.server).taken calls now a)
     (visit_members a.home.host n t.visits.answers a.server ++ late_members t.visits.late) w
-round-makes a w last timers per_host new took calls now t h brought =
+round-makes a w last timers policies new took calls now t h brought =
     let n = ready_next t.ready a.server in
     let others : Brought a.home.host t.others a = subst (λ (l : List Entry). Brought a.home.host l a) t.calls_are brought in
     let made =
-    visit-makes a w (Round t.time t.settled per_host) n new.table timers new.timers took t.others now t.visits
+    visit-makes a w (Round t.time t.settled policies) n new.table timers new.timers took t.others now t.visits
     (ready_fits t.ready a.server) h others in
     let make : List Entry → Archive = λ l. after_server new.table (next_visit n t.visits.answers a.server).taken l now a in
     subst (λ (l : List Entry). Makes (make l) (visit_members a.home.host n t.visits.answers a.server ++ late_members t.visits.late) w) (sym t.calls_are) made

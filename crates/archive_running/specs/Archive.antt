@@ -15,6 +15,7 @@ use Rattle.archive_wire.specs.Wire.{Entry, Replies, datagram}
 use Rattle.archive_server.specs.declared.timer.Timer.{Timer}
 use Rattle.archive_server.specs.declared.mode.Mode.{Mode}
 use Rattle.archive_server.specs.declared.next.Next.TheVariants.{Transfer}
+use Rattle.archive_server.specs.declared.policies.Policies.{Policies}
 use Rattle.archive_server.specs.Turn.{Server, IsTurnIn, IsTurn, IsRound, next_visit, turn_next, ready_next}
 use Rattle.archive_runs.specs.Run.{Run, begin_opened, IsRunTurn}
 use Rattle.archive_runs.specs.declared.pace.Pace.{Pace}
@@ -151,21 +152,21 @@ LoadsWith file (Some log) (Some reported) old new =
 -- ---- how it moves
 
 -- the archive's server, with the port that it visited last, its timers, and how many transfers one host may have
-abbrev pub server_in : (last : ℕ) (timers : List Timer) (per_host : ℕ) → Archive → Server
-server_in last timers per_host a = record { table = a.server; last = last; timers = timers; per_host = per_host }
+abbrev pub server_in : (last : ℕ) (timers : List Timer) (policies : Policies) → Archive → Server
+server_in last timers policies a = record { table = a.server; last = last; timers = timers; policies = policies }
 
 -- One move: a turn or round of the server or of a client, a begin, or a restart; with its members of the trace. A begin that
 -- fails sends nothing and leaves no client, so it is not a move.
 pub data Moves : (old new : Archive) → List Member → Type 0 where
   -- the server makes a turn; the port that it visited last, its timers and its limit may be any
-  server_turns : (a : Archive) (last : ℕ) (timers : List Timer) (per_host : ℕ) (new : Server) (took : Bool) (calls : List Entry)
-      (now : Option (List Keeping)) (t : IsTurn (server_in last timers per_host a) new took calls a.kept now) →
+  server_turns : (a : Archive) (last : ℕ) (timers : List Timer) (policies : Policies) (new : Server) (took : Bool) (calls : List Entry)
+      (now : Option (List Keeping)) (t : IsTurn (server_in last timers policies a) new took calls a.kept now) →
       Brings a.home.host calls a →
-      Moves a (after_server new.table (next_visit (turn_next (server_in last timers per_host a)) t.visits.answers a.server).taken calls now a)
-      (visit_members a.home.host (turn_next (server_in last timers per_host a)) t.visits.answers a.server ++ late_members t.visits.late)
+      Moves a (after_server new.table (next_visit (turn_next (server_in last timers policies a)) t.visits.answers a.server).taken calls now a)
+      (visit_members a.home.host (turn_next (server_in last timers policies a)) t.visits.answers a.server ++ late_members t.visits.late)
   -- the server makes a round
-  server_rounds : (a : Archive) (last : ℕ) (timers : List Timer) (per_host : ℕ) (new : Server) (took : Bool) (calls : List Entry)
-      (now : Option (List Keeping)) (t : IsRound (server_in last timers per_host a) new took calls a.kept now) →
+  server_rounds : (a : Archive) (last : ℕ) (timers : List Timer) (policies : Policies) (new : Server) (took : Bool) (calls : List Entry)
+      (now : Option (List Keeping)) (t : IsRound (server_in last timers policies a) new took calls a.kept now) →
       Brings a.home.host calls a →
       Moves a (after_server new.table (next_visit (ready_next t.ready a.server) t.visits.answers a.server).taken calls now a)
       (visit_members a.home.host (ready_next t.ready a.server) t.visits.answers a.server ++ late_members t.visits.late)
@@ -248,8 +249,8 @@ pub record CanReach (P : Client → Type 0) : Type 0 where
 
 -- the server makes rounds, and no turns
 abbrev pub IsNoTurn : {old new : Archive} {added : List Member} → Moves old new added → Type 0
-IsNoTurn (server_turns a last timers per_host new took calls now t brings) = ⊥
-IsNoTurn (server_rounds a last timers per_host new took calls now t brings) = Unit {0}
+IsNoTurn (server_turns a last timers policies new took calls now t brings) = ⊥
+IsNoTurn (server_rounds a last timers policies new took calls now t brings) = Unit {0}
 IsNoTurn (server_restarts a maps now loaded) = Unit {0}
 IsNoTurn (server_ends a mode port from bytes timers left new took calls now later p t maps came refused wanted brings finds) = ⊥
 IsNoTurn (client_begins a host operation port replies r away begun) = Unit {0}

@@ -312,10 +312,10 @@ too_many now first count dally falls more most two many = omega (arith, falls, m
 counts_twice : (a b m n : ℕ) → 1 ≤ a → a ≤ m → a ≤ n → b ≡ m + n → 2 ≤ b
 counts_twice a b m n one left right is = omega (arith, one, left, right, is)
 
-none_left : (now settled per_host : _) (quiet : Bool) (timers : List Timer) (s new : Table) → Tracks s timers → IsTable new →
-    Falls (late_ports (Round now settled per_host) quiet timers s) s new → has_slot new ≡ false → (port : ℕ) → is_dallying port new ≡ true → ⊥
-none_left now settled per_host quiet timers s new tracks fits falls full port done =
-    let mode = Round now settled per_host in
+none_left : (now settled policies : _) (quiet : Bool) (timers : List Timer) (s new : Table) → Tracks s timers → IsTable new →
+    Falls (late_ports (Round now settled policies) quiet timers s) s new → has_slot new ≡ false → (port : ℕ) → is_dallying port new ≡ true → ⊥
+none_left now settled policies quiet timers s new tracks fits falls full port done =
+    let mode = Round now settled policies in
     let more : 1 ≤ left_of_port port new = some_left (transfer_at port new) done (IfSome-lookup_from_All (λ (t : Transfer). IsEnd t.end) (at_port port) new.live fits.ends) in
     let was = left_dallies (transfer_at port s) (omega (arith, more, falls.left port)) in
     let all_taken : has_slot s ≡ false = still_full (length new.live) (length s.live) falls.few full in
@@ -332,10 +332,10 @@ none_left now settled per_host quiet timers s new tracks fits falls full port do
 pub has_given_way : (mode : Mode) (quiet : Bool) (timers : List Timer) (s new : Table) (items : List ℕ) (i : ℕ) → Tracks s timers → IsTable new →
     length items ≤ i → items ≡ late_ports mode quiet timers s → Falls (take i items) s new → HasGivenWay mode new
 has_given_way Turn quiet timers s new items i tracks fits whole is falls = tt
-has_given_way (Round now settled per_host) quiet timers s new items i tracks fits whole is falls =
+has_given_way (Round now settled policies) quiet timers s new items i tracks fits whole is falls =
     let all : Falls items s new = subst (λ (ps : List ℕ). Falls ps s new) (take_all i items whole) falls in
-    let late : Falls (late_ports (Round now settled per_host) quiet timers s) s new = subst (λ (ps : List ℕ). Falls ps s new) is all in
+    let late : Falls (late_ports (Round now settled policies) quiet timers s) s new = subst (λ (ps : List ℕ). Falls ps s new) is all in
     λ full port. elim (cases_Bool (is_dallying port new)) [
-      | inl y ↦ absurd (none_left now settled per_host quiet timers s new tracks fits late full port y)
+      | inl y ↦ absurd (none_left now settled policies quiet timers s new tracks fits late full port y)
       | inr n ↦ n
     ]

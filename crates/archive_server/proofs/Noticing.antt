@@ -16,7 +16,7 @@ room_same mode Nothing timers room = room
 room_same mode (Opened port) timers room = room
 room_same mode (Sent port) timers room = room
 room_same Turn (Answered port) timers room = tt
-room_same (Round now settled per_host) (Answered port) timers room = tt
+room_same (Round now settled policies) (Answered port) timers room = tt
 room_same mode (Closed port) timers room = room
 
 -- what is noticed needs a place for a timer only if the change does
@@ -31,5 +31,5 @@ ports_noticed mode Nothing due timers = refl
 ports_noticed mode (Opened port) due timers = refl
 ports_noticed mode (Sent port) due timers = refl
 ports_noticed Turn (Answered port) due timers = ports_due port due timers
-ports_noticed (Round now settled per_host) (Answered port) due timers = refl
+ports_noticed (Round now settled policies) (Answered port) due timers = refl
 ports_noticed mode (Closed port) due timers = refl

@@ -10,6 +10,7 @@ use Rattle.archive_server.specs.declared.mode.Mode.{Mode}
 use Rattle.archive_server.specs.declared.mode.Mode.TheVariants.{Turn, Round}
 use Rattle.archive_server.specs.declared.next.Next.{Next}
 use Rattle.archive_server.specs.declared.next.Next.TheVariants as next
+use Rattle.archive_server.specs.declared.policies.Policies.{Policies}
 use Rattle.archive_server.specs.declared.timer.Timer.{Timer}
 use Rattle.archive_wire.specs.Wire.{Entry, Grows, waited, Receipt, nothing}
 use Rattle.archive_server.specs.Timers.{ports_of, live_ports, lower, timed, timers_if, timers_after, counts, noticed, is_quiet, late_ports, restart, earliest, HasRoom}
@@ -119,36 +120,36 @@ turn_in_made {before} {mid} {after} {kept} {now} mode n s between new timers aft
 -- ---- a turn and a round
 
 -- a server with these parts
-abbrev server_with : Table → (last : ℕ) → List Timer → (per_host : ℕ) → Server
-server_with s last timers per_host = record { table = s; last = last; timers = timers; per_host = per_host }
+abbrev server_with : Table → (last : ℕ) → List Timer → Policies → Server
+server_with s last timers policies = record { table = s; last = last; timers = timers; policies = policies }
 
 -- the visit to the next live port is a turn
 pub turn_made : {before after : Option (List Entry)} {kept now : Option (List Keeping)} (port : Option ℕ) (n : Next)
-    (s new : Table) (last noted_last per_host : ℕ) (timers left : List Timer) (taken : Bool) (from : Server) →
-    server_with s last timers per_host ≡ from → port ≡ port_above last s → n ≡ next_of port → noted_last ≡ noted port →
+    (s new : Table) (last noted_last : ℕ) (policies : Policies) (timers left : List Timer) (taken : Bool) (from : Server) →
+    server_with s last timers policies ≡ from → port ≡ port_above last s → n ≡ next_of port → noted_last ≡ noted port →
     MakesTurnIn Turn n s new timers left taken before after kept now →
-    MakesTurn from (server_with new noted_last left per_host) taken before after kept now
-turn_made {before} {after} {kept} {now} port n s new last noted_last per_host timers left taken from from-is port-is n-is last-is makes =
+    MakesTurn from (server_with new noted_last left policies) taken before after kept now
+turn_made {before} {after} {kept} {now} port n s new last noted_last policies timers left taken from from-is port-is n-is last-is makes =
     let here : MakesTurnIn Turn (next_of (port_above last s)) s new timers left taken before after kept now =
     subst (λ (m : Next). MakesTurnIn Turn m s new timers left taken before after kept now) (n-is ∙ ap next_of port-is) makes in
-    let turn : IsTurn (server_with s last timers per_host) (server_with new noted_last left per_host) taken here.calls kept now =
-    record { visits = here.visits; last = last-is ∙ ap noted port-is; per_host = refl } in
-    let made : MakesTurn (server_with s last timers per_host) (server_with new noted_last left per_host) taken before after kept now = record { calls = here.calls; made = turn; grows = here.grows } in
-    subst (λ (c : Server). MakesTurn c (server_with new noted_last left per_host) taken before after kept now) from-is made
+    let turn : IsTurn (server_with s last timers policies) (server_with new noted_last left policies) taken here.calls kept now =
+    record { visits = here.visits; last = last-is ∙ ap noted port-is; policies = refl } in
+    let made : MakesTurn (server_with s last timers policies) (server_with new noted_last left policies) taken before after kept now = record { calls = here.calls; made = turn; grows = here.grows } in
+    subst (λ (c : Server). MakesTurn c (server_with new noted_last left policies) taken before after kept now) from-is made
 
 -- a wait and the visit to the port that is ready are a round
 pub round_made : {before mid after : Option (List Entry)} {kept now : Option (List Keeping)} (until ready : Option ℕ) (time : ℕ)
-    (settled : Option ℕ) (n : Next) (s new : Table) (last noted_last per_host : ℕ) (timers left : List Timer) (taken : Bool)
-    (from : Server) → server_with s last timers per_host ≡ from → until ≡ earliest timers → n ≡ ready_next ready s →
+    (settled : Option ℕ) (n : Next) (s new : Table) (last noted_last : ℕ) (policies : Policies) (timers left : List Timer) (taken : Bool)
+    (from : Server) → server_with s last timers policies ≡ from → until ≡ earliest timers → n ≡ ready_next ready s →
     noted_last ≡ noted_or last ready → Grows before mid (waited last until ready time settled ∷ []) →
-    MakesTurnIn (Round time settled per_host) n s new timers left taken mid after kept now →
-    MakesRound from (server_with new noted_last left per_host) taken before after kept now
-round_made {before} {mid} {after} {kept} {now} until ready time settled n s new last noted_last per_host timers left taken from from-is until-is n-is last-is first makes =
+    MakesTurnIn (Round time settled policies) n s new timers left taken mid after kept now →
+    MakesRound from (server_with new noted_last left policies) taken before after kept now
+round_made {before} {mid} {after} {kept} {now} until ready time settled n s new last noted_last policies timers left taken from from-is until-is n-is last-is first makes =
     let wait : Grows before mid (waited last (earliest timers) ready time settled ∷ []) = subst (λ (u : Option ℕ). Grows before mid (waited last u ready time settled ∷ [])) until-is first in
-    let here : MakesTurnIn (Round time settled per_host) (ready_next ready s) s new timers left taken mid after kept now =
-    subst (λ (m : Next). MakesTurnIn (Round time settled per_host) m s new timers left taken mid after kept now) n-is makes in
+    let here : MakesTurnIn (Round time settled policies) (ready_next ready s) s new timers left taken mid after kept now =
+    subst (λ (m : Next). MakesTurnIn (Round time settled policies) m s new timers left taken mid after kept now) n-is makes in
     let calls : List Entry = waited last (earliest timers) ready time settled ∷ here.calls in
-    let round : IsRound (server_with s last timers per_host) (server_with new noted_last left per_host) taken calls kept now =
+    let round : IsRound (server_with s last timers policies) (server_with new noted_last left policies) taken calls kept now =
     record {
       ready = ready;
       time = time;
@@ -158,12 +159,12 @@ round_made {before} {mid} {after} {kept} {now} until ready time settled n s new 
       calls_are = refl;
       last =
           last-is;
-      per_host = refl;
+      policies = refl;
     } in
-    let made : MakesRound (server_with s last timers per_host)
-    (server_with new noted_last left per_host) taken before after kept now =
+    let made : MakesRound (server_with s last timers policies)
+    (server_with new noted_last left policies) taken before after kept now =
     record { calls = calls; made = round; grows = grows_join wait here.grows } in
-    subst (λ (c : Server). MakesRound c (server_with new noted_last left per_host) taken before after kept now) from-is made
+    subst (λ (c : Server). MakesRound c (server_with new noted_last left policies) taken before after kept now) from-is made
 
 -- ---- one after another
 

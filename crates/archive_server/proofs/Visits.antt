@@ -42,12 +42,12 @@ transfer_failed kept port s grows =
 -- a receipt of nothing is always let in
 nothing_let_in : (mode : Mode) (timers : List Timer) (s : Table) → admits mode timers nothing s ≡ true
 nothing_let_in Turn timers s = refl
-nothing_let_in (Round now settled per_host) timers s = refl
+nothing_let_in (Round now settled policies) timers s = refl
 
 -- so is one that failed
 fault_let_in : (mode : Mode) (timers : List Timer) (s : Table) → admits mode timers fault s ≡ true
 fault_let_in Turn timers s = refl
-fault_let_in (Round now settled per_host) timers s = refl
+fault_let_in (Round now settled policies) timers s = refl
 
 -- nothing came at the request port
 pub request_quiet : {before after : Option (List Entry)} (mode : Mode) (timers : List Timer) (port : ℕ) (s : Table) →

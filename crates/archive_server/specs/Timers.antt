@@ -80,7 +80,7 @@ deadline time = min (time + TIMEOUT) (2 ^ 64 - 1)
 -- to what the timer of a port restarts
 abbrev pub restart : Mode → ℕ
 restart Turn = QUIET_TURNS
-restart (Round now settled per_host) = deadline now
+restart (Round now settled policies) = deadline now
 
 abbrev pub is_quiet : Change → Bool
 is_quiet Quiet = true
@@ -93,7 +93,7 @@ is_quiet (Closed port) = false
 -- whether a visit counts down each timer: only quiet turns do
 abbrev pub counts : Mode → (quiet : Bool) → Bool
 counts Turn quiet = quiet
-counts (Round now settled per_host) quiet = false
+counts (Round now settled policies) quiet = false
 
 -- an answer to a stranger restarts a timer only where turns are counted
 abbrev pub noticed : Mode → Change → Change
@@ -102,7 +102,7 @@ noticed mode Nothing = Nothing
 noticed mode (Opened port) = Opened port
 noticed mode (Sent port) = Sent port
 noticed Turn (Answered port) = Sent port
-noticed (Round now settled per_host) (Answered port) = Nothing
+noticed (Round now settled policies) (Answered port) = Nothing
 noticed mode (Closed port) = Closed port
 
 abbrev pub timers_if : (counts_down : Bool) → Change → (due : ℕ) → List Timer → List Timer
@@ -117,12 +117,12 @@ timers_after mode change timers = timers_if (counts mode (is_quiet change)) (not
 abbrev pub due_by : Mode → (quiet : Bool) → Option ℕ
 due_by Turn true = Some 0
 due_by Turn false = None
-due_by (Round now settled per_host) quiet = settled
+due_by (Round now settled policies) quiet = settled
 
 -- While all places are taken, a transfer that dallies gives way.
 abbrev pub gives_way : Mode → (port : ℕ) → Table → Bool
 gives_way Turn port s = false
-gives_way (Round now settled per_host) port s = not (has_slot s) && is_dallying port s
+gives_way (Round now settled policies) port s = not (has_slot s) && is_dallying port s
 
 abbrev pub is_due : Option ℕ → Timer → Bool
 is_due (Some now) t = nat_le t.due now
@@ -140,7 +140,7 @@ late_ports mode quiet timers s = ports_of (filter (λ t. is_due (due_by mode qui
 -- after the time-outs of a round no transfer dallies while all places are taken
 abbrev pub HasGivenWay : Mode → Table → Type 0
 HasGivenWay Turn s = Unit {0}
-HasGivenWay (Round now settled per_host) s = has_slot s ≡ false → (port : ℕ) → is_dallying port s ≡ false
+HasGivenWay (Round now settled policies) s = has_slot s ≡ false → (port : ℕ) → is_dallying port s ≡ false
 
 -- ---- how long the wire waits
 

@@ -3,6 +3,7 @@
 -- which calls of the wire they make, in which order, and which steps of the table. What the wire returns is an argument, and
 -- so is what the steps are granted.
 use Rattle.std.specs.Prelude.{◌≡◌, ℕ, ◌==◌, ◌&&◌, ◌||◌, not, nat_lt, Bool, true, false, ◌+◌, ◌/◌, ◌^◌, List, [], ◌∷◌, ◌++◌, map, fold, count_by, Option, None, Some, is_some, option_map, unwrap_or, Result, Ok, Err}
+use Rattle.std.specs.List.{list_any}
 use Rattle.tftp_packet.specs.declared.endpoint.Endpoint.{Endpoint}
 use Rattle.tftp_packet.specs.declared.out.Out.{Out}
 use Rattle.tftp_packet.specs.declared.packet_fault.PacketFault.{PacketFault}
@@ -10,6 +11,7 @@ use Rattle.tftp_packet.specs.Packet.{Packet, read, write, data_block, ack, error
 use Rattle.tftp_packet.specs.Decode.{decode_bytes}
 use Rattle.tftp_ends.specs.Ends.{Verdict}
 use Rattle.archive_table.specs.Table.{Table, Maps, Taken, TableAnswer, Grant, all, Merges, transfer_at, peer_at, is_same, port_above, table_request, table_datagram, table_timeout}
+use Rattle.archive_table.specs.declared.limits.TheConstants.{LIVE}
 use Rattle.archive_table.specs.Keeper.{Keeping, StepKeeps}
 use Rattle.archive_server.specs.declared.change.Change.{Change}
 use Rattle.archive_server.specs.declared.change.Change.TheVariants.{Quiet, Nothing, Opened, Sent, Answered, Closed}
@@ -17,6 +19,9 @@ use Rattle.archive_server.specs.declared.mode.Mode.{Mode}
 use Rattle.archive_server.specs.declared.mode.Mode.TheVariants.{Turn, Round}
 use Rattle.archive_server.specs.declared.next.Next.{Next}
 use Rattle.archive_server.specs.declared.next.Next.TheVariants as next
+use Rattle.archive_server.specs.declared.policies.Policies.{Policies}
+use Rattle.archive_server.specs.declared.putters.Putters.{Putters}
+use Rattle.archive_server.specs.declared.putters.Putters.TheVariants.{All, Hosts}
 use Rattle.archive_server.specs.declared.timer.Timer.{Timer}
 use Rattle.archive_server.specs.Timers.{timed_out, timers_after, is_quiet, late_ports, restart, earliest}
 use Rattle.archive_wire.specs.Wire.{Entry, opened, closed, came, quiet, failed, sent, waited, Grows, Replies, Receipt, datagram, nothing, fault, sendings}
@@ -222,21 +227,28 @@ is_from host (Some peer) = peer.host == host
 abbrev pub count_from : (host : ℕ) → List Timer → Table → ℕ
 count_from host timers s = count_by (λ t. is_from host (peer_at t.port s)) timers
 
-abbrev pub asks_for : Result Packet PacketFault → Bool
-asks_for (Ok (read name mode)) = true
-asks_for (Ok (write name mode)) = true
-asks_for (Ok (data_block n body)) = false
-asks_for (Ok (ack n)) = false
-asks_for (Ok (error code text)) = false
-asks_for (Err e) = false
+-- a list names a host unless it is 0
+abbrev pub may_put : (host : ℕ) → Putters → Bool
+may_put host All = true
+may_put host (Hosts hosts) = not (host == 0) && list_any (λ h. h == host) hosts
 
--- A round lets in only requests, and only from a host that has fewer transfers than it may have.
+-- whether this is a request that a host may make
+abbrev pub may_ask : Putters → (host : ℕ) → Result Packet PacketFault → Bool
+may_ask putters host (Ok (read name mode)) = true
+may_ask putters host (Ok (write name mode)) = may_put host putters
+may_ask putters host (Ok (data_block n body)) = false
+may_ask putters host (Ok (ack n)) = false
+may_ask putters host (Ok (error code text)) = false
+may_ask putters host (Err e) = false
+
+-- A round lets in only requests, a put only from a host that may put, and only from a host that has fewer transfers than it
+-- may have.
 abbrev pub admits : Mode → List Timer → Receipt → Table → Bool
 admits Turn timers receipt s = true
-admits (Round now settled per_host) timers (datagram from bytes) s =
-    asks_for (decode_bytes bytes) && (is_loopback from.host || nat_lt (count_from from.host timers s) per_host)
-admits (Round now settled per_host) timers nothing s = true
-admits (Round now settled per_host) timers fault s = true
+admits (Round now settled policies) timers (datagram from bytes) s =
+    may_ask policies.putters from.host (decode_bytes bytes) && (is_loopback from.host || nat_lt (count_from from.host timers s) policies.per_host)
+admits (Round now settled policies) timers nothing s = true
+admits (Round now settled policies) timers fault s = true
 
 abbrev pub next_admits : Mode → Next → List Timer → Receipt → Table → Bool
 next_admits mode next.Request timers receipt s = admits mode timers receipt s
@@ -268,12 +280,16 @@ pub record Server : Type 0 where
   pub last : ℕ
   -- for each live port how many quiet turns are left until it times out, or the time at which it does
   pub timers : List Timer
-  -- in rounds, the most transfers of one host
-  pub per_host : ℕ
+  -- which requests rounds let in
+  pub policies : Policies
+
+-- those that let every request in
+abbrev pub open_policies : Policies
+open_policies = record { per_host = LIVE; putters = All }
 
 -- a server with this table, before its first turn or round
-abbrev pub fresh_server : (per_host : ℕ) → Table → Server
-fresh_server per_host table = record { table = table; last = 0; timers = []; per_host = per_host }
+abbrev pub fresh_server : Policies → Table → Server
+fresh_server policies table = record { table = table; last = 0; timers = []; policies = policies }
 
 abbrev pub next_of : Option ℕ → Next
 next_of (Some port) = next.Transfer port
@@ -292,7 +308,7 @@ turn_next s = next_of (port_above s.last s.table)
 pub record IsTurn (old new : Server) (taken : Bool) (calls : List Entry) (kept now : Option (List Keeping)) : Type 0 where
   pub visits : IsTurnIn Turn (turn_next old) old.table new.table old.timers new.timers taken calls kept now
   pub last : new.last ≡ noted (port_above old.last old.table)
-  pub per_host : new.per_host ≡ old.per_host
+  pub policies : new.policies ≡ old.policies
 
 abbrev pub port_next : (is_request : Bool) → (port : ℕ) → Next
 port_next true port = next.Request
@@ -315,10 +331,10 @@ pub record IsRound (old new : Server) (taken : Bool) (calls : List Entry) (kept 
   pub time : ℕ
   pub settled : Option ℕ
   pub others : List Entry
-  pub visits : IsTurnIn (Round time settled old.per_host) (ready_next ready old.table) old.table new.table old.timers new.timers taken others kept now
+  pub visits : IsTurnIn (Round time settled old.policies) (ready_next ready old.table) old.table new.table old.timers new.timers taken others kept now
   pub calls_are : calls ≡ waited old.last (earliest old.timers) ready time settled ∷ others
   pub last : new.last ≡ noted_or old.last ready
-  pub per_host : new.per_host ≡ old.per_host
+  pub policies : new.policies ≡ old.policies
 
 -- ---- one after another
 

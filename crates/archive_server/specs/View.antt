@@ -3,4 +3,4 @@ use Rattle.archive_server.specs.declared.server.Server.TheInside as servers
 use Rattle.archive_server.specs.Turn.{Server}
 
 abbrev pub server_of : {A : Type 0} → servers.Inside A → Server
-server_of s = record { table = s.table; last = s.last; timers = s.timers; per_host = s.per_host }
+server_of s = record { table = s.table; last = s.last; timers = s.timers; policies = s.policies }

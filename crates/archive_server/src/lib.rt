@@ -5,9 +5,12 @@
 #![tactic(auto)]
 
 mod change;
+mod drop_cause;
 mod limits;
 mod mode;
 mod next;
+mod policies;
+mod putters;
 mod serve;
 mod server;
 mod server_observer;
@@ -15,8 +18,11 @@ mod timer;
 mod timers;
 mod visit;
 
+pub use drop_cause::DropCause;
 pub use mode::Mode;
 pub use next::Next;
+pub use policies::Policies;
+pub use putters::{PUTTERS, Putters};
 pub use serve::{serve_rounds, serve_turns};
 pub use server::Server;
 pub use server_observer::ServerObserver;

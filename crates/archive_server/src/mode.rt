@@ -4,6 +4,7 @@ ghost use Rattle.std.specs.Prelude.{◌≡◌};
 ghost use Rattle.archive_server.specs.Timers.{counts, deadline, due_by, is_quiet, noticed, restart};
 
 use crate::change::Change;
+use crate::policies::Policies;
 use archive_wire::{QUIET_TURNS, TIMEOUT};
 
 /// How a server visits its ports.
@@ -17,8 +18,8 @@ pub enum Mode {
         now: u64,
         /// The time up to which all that arrived was handed out, if that was just found.
         settled: Option<u64>,
-        /// The most transfers of one host.
-        per_host: usize,
+        /// Which requests are let in.
+        policies: Policies,
     },
 }
 

@@ -6,14 +6,15 @@ ghost use Rattle.archive_table.specs.Keeper.{HasLoaded, TableFails};
 ghost use Rattle.byte_output.specs.Failures.{Rises};
 ghost use Rattle.archive_server.specs.Timers.{HasGivenWay, Tracks};
 ghost use Rattle.archive_server.specs.Parts.{IsVisit, MakesTurnIn};
-ghost use Rattle.archive_server.specs.Turn.{MakesTurn, MakesRound, fresh_server, next_visit, next_asks, next_admits, next_of, ready_next, noted, noted_or};
+ghost use Rattle.archive_server.specs.Turn.{MakesTurn, MakesRound, fresh_server, open_policies, next_visit, next_asks, next_admits, next_of, ready_next, noted, noted_or};
 
 use crate::mode::Mode;
 use crate::next::Next;
+use crate::policies::Policies;
 use crate::server_observer::ServerObserver;
 use crate::timers::Timers;
 use crate::visit::{Visit, time_out_late, visit_request, visit_transfer};
-use archive_table::{KeepFault, Keeper, LIVE, LoadFault, Table};
+use archive_table::{KeepFault, Keeper, LoadFault, Table};
 use archive_wire::{ReadyWire, Wire};
 use std::alloc::{Allocator, Global};
 use std::marker::Model;
@@ -25,7 +26,7 @@ pub struct Server<A: Allocator + Copy = Global> {
     table: Table<A>,
     last: u16,
     timers: Timers,
-    per_host: usize,
+    policies: Policies,
 }
 
 impl<A: Allocator + Copy> Model for Server<A> {
@@ -126,7 +127,7 @@ impl<A: Allocator + Copy> Server<A> {
     /// Returns a server with this request port, empty collections and no transfer, which has visited no port yet. Does
     /// not allocate.
     pub fn new(alloc: A, request: u16) -> Self
-        ensures { result ≡ fresh_server LIVE (empty_table request) }
+        ensures { result ≡ fresh_server open_policies (empty_table request) }
     {
         Self::of(Table::new(alloc, request))
     }
@@ -139,7 +140,7 @@ impl<A: Allocator + Copy> Server<A> {
     /// Those of `Table::load`.
     pub fn load<K: Keeper>(alloc: A, request: u16, keeper: &mut K) -> Result<Self, LoadFault>
         ensures loaded { IfOk result (λ s. HasLoaded request (K.calls keeper.old) s.table) }
-        ensures fresh { IfOk result (λ s. s ≡ fresh_server LIVE s.table) }
+        ensures fresh { IfOk result (λ s. s ≡ fresh_server open_policies s.table) }
         ensures fault { IfErr result (TableFails (K.calls keeper.old)) }
         ensures calls { K.calls keeper.new ≡ K.calls keeper.old }
         ensures failed { result ≡ Err (LoadFault.Keep KeepFault.Device) → Rises (K.failed keeper.old) (K.failed keeper.new) }
@@ -154,22 +155,21 @@ impl<A: Allocator + Copy> Server<A> {
     fn of(table: Table<A>) -> Self
         requires idle { table.live ≡ [] }
         requires fits { IsTable table }
-        ensures { result ≡ fresh_server LIVE table }
+        ensures { result ≡ fresh_server open_policies table }
     {
         Server {
             table,
             last: 0,
             timers: Timers::new(),
-            per_host: LIVE,
+            policies: Policies::open(),
         }
     }
 
-    /// Sets how many transfers one host may have in rounds; a request beyond that is dropped. Clients on the server's own
-    /// host, at addresses of the loopback range, are not counted. At first it is `LIVE`.
-    pub fn limit_per_host(&mut self, per_host: usize)
-        ensures { self.new ≡ record self.old { per_host = per_host } }
+    /// Sets which requests rounds let in. At first they let in all.
+    pub fn set_policies(&mut self, policies: Policies)
+        ensures { self.new ≡ record self.old { policies = policies } }
     {
-        self.per_host = per_host;
+        self.policies = policies;
     }
 
     /// Makes one turn: visits the least live port above the last one, or the request port if there is none. Returns
@@ -203,12 +203,11 @@ impl<A: Allocator + Copy> Server<A> {
     /// Makes one round: waits for a ready port, visits it as a turn does, and lets transfers time out. Returns whether a
     /// file was taken.
     ///
-    /// A datagram at the request port that is not a request opens no port, and neither does one of a host that has as many
-    /// transfers as it may have. A transfer times out `TIMEOUT` milliseconds after it was opened or last sent to its
+    /// A datagram at the request port that is not a request, or that the policies do not let in, opens no port. A transfer times out `TIMEOUT` milliseconds after it was opened or last sent to its
     /// peer, once all that had arrived by then was handed out. One that dallies gives way when `LIVE` transfers are live.
     ///
     /// The observer is notified of each step, time-outs too, after the step's calls of the wire, and of each request that is
-    /// dropped for its host. It changes nothing.
+    /// dropped. It changes nothing.
     pub fn round<W: ReadyWire, K: Keeper, O: ServerObserver>(
         &mut self,
         wire: &mut W,
@@ -231,7 +230,7 @@ impl<A: Allocator + Copy> Server<A> {
             Mode::Round {
                 now: ready.time,
                 settled: ready.settled,
-                per_host: self.per_host,
+                policies: self.policies,
             },
             next,
         )

@@ -1,5 +1,6 @@
 //! What observes a server.
 
+use crate::drop_cause::DropCause;
 use archive_table::{NoObserver, Observer, Table};
 use std::alloc::Allocator;
 use tftp_packet::Endpoint;
@@ -16,8 +17,8 @@ pub trait ServerObserver: Observer {
         table: &Table<A>,
     );
 
-    /// Observes that a request of this endpoint was dropped, since its host has as many transfers as it may have.
-    fn on_dropped(&mut self, from: Endpoint);
+    /// Observes that a request of this endpoint was dropped.
+    fn on_dropped(&mut self, from: Endpoint, why: DropCause);
 
     /// Observes that the server makes no more steps.
     fn on_stopped(&mut self);
@@ -31,7 +32,7 @@ impl ServerObserver for NoObserver {
         _table: &Table<A>,
     ) {}
 
-    fn on_dropped(&mut self, _from: Endpoint) {}
+    fn on_dropped(&mut self, _from: Endpoint, _why: DropCause) {}
 
     fn on_stopped(&mut self) {}
 }

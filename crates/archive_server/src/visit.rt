@@ -6,10 +6,12 @@ ghost use Rattle.archive_table.specs.Table.{IsTable, transfer_at};
 ghost use Rattle.archive_server.specs.Timers.{ports_of, live_ports, is_quiet, late_ports, restart, HasGivenWay, Tracks};
 ghost use Rattle.archive_server.specs.Parts.{IsVisit, IsTimeout, Acts, Walks};
 ghost use Rattle.archive_wire.specs.Wire.{SendsOut, datagram};
-ghost use Rattle.archive_server.specs.Turn.{transfer_visit, transfer_asks, timeout_visit, request_visit, request_spared, request_change, transfer_change, admits, asks_for, count_from, is_loopback, is_peer as peer_is, is_usable as usable_at};
+ghost use Rattle.archive_server.specs.Turn.{transfer_visit, transfer_asks, timeout_visit, request_visit, request_spared, request_change, transfer_change, admits, may_ask, count_from, is_loopback, is_peer as peer_is, is_usable as usable_at};
 
 use crate::change::Change;
+use crate::drop_cause::DropCause;
 use crate::mode::Mode;
+use crate::putters::Putters;
 use crate::server_observer::ServerObserver;
 use crate::timers::Timers;
 use archive_table::{Keeper, Observer, Step, Table};
@@ -158,18 +160,25 @@ fn is_usable<A: Allocator + Copy>(table: &Table<A>, spare: u16) -> bool
     spare != 0 && spare != table.request() && !table.is_live(spare)
 }
 
-// Whether bytes are a request.
-fn is_request(bytes: &[u8]) -> bool
-    ensures { result ≡ asks_for (decode_bytes bytes.now) }
+// Whether bytes are a request that this host may make.
+fn may_ask(putters: &Putters, host: u32, bytes: &[u8]) -> bool
+    ensures { result ≡ may_ask putters.now host (decode_bytes bytes.now) }
 {
     match decode(bytes) {
         Ok(Packet::Read { .. }) => true,
-        Ok(Packet::Write { .. }) => true,
+        Ok(Packet::Write { .. }) => putters.allows(host),
         Ok(Packet::Data { .. }) => false,
         Ok(Packet::Ack { .. }) => false,
         Ok(Packet::Error { .. }) => false,
         Err(_) => false,
     }
+}
+
+// Whether bytes are a request.
+fn is_request(bytes: &[u8]) -> bool
+    ensures { result ≡ may_ask Putters.All 0 (decode_bytes bytes.now) }
+{
+    may_ask(&Putters::All, 0, bytes)
 }
 
 // Whether a host may have one more transfer. This host's own clients are not counted.
@@ -196,8 +205,9 @@ fn is_admitted<A: Allocator + Copy>(
 {
     match mode {
         Mode::Turn => true,
-        Mode::Round { per_host, .. } => {
-            is_request(bytes) && has_room_for(table, timers, from.host, per_host)
+        Mode::Round { policies, .. } => {
+            may_ask(&policies.putters, from.host, bytes)
+                && has_room_for(table, timers, from.host, policies.per_host)
         }
     }
 }
@@ -219,7 +229,7 @@ pub(crate) fn visit_request<A: Allocator + Copy, W: Wire, O: ServerObserver>(
             if is_admitted(table, timers, mode, from, &buffer[..count]) {
                 answer_request(table, wire, observer, from, &buffer[..count])
             } else {
-                observe_drop(observer, from, &buffer[..count]);
+                observe_drop(observer, mode, from, &buffer[..count]);
                 Visit::LOST
             }
         }
@@ -229,9 +239,14 @@ pub(crate) fn visit_request<A: Allocator + Copy, W: Wire, O: ServerObserver>(
 }
 
 // Notifies an observer of a datagram at the request port that was not admitted, if it is a request.
-fn observe_drop<O: ServerObserver>(observer: &mut O, from: Endpoint, bytes: &[u8]) {
-    if is_request(bytes) {
-        observer.on_dropped(from);
+fn observe_drop<O: ServerObserver>(observer: &mut O, mode: Mode, from: Endpoint, bytes: &[u8]) {
+    let Mode::Round { policies, .. } = mode else {
+        return;
+    };
+    if may_ask(&policies.putters, from.host, bytes) {
+        observer.on_dropped(from, DropCause::ManyTransfers);
+    } else if is_request(bytes) {
+        observer.on_dropped(from, DropCause::NotPutter);
     }
 }
 

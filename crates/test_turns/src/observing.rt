@@ -4,7 +4,7 @@
 use crate::wires::*;
 use archive_keepers::NoKeeper;
 use archive_memory::MemoryWire;
-use archive_server::{Server, ServerObserver};
+use archive_server::{DropCause, Server, ServerObserver};
 use archive_table::{Observer, Step, Table};
 use archive_wire::{RECEIVE_SIZE, Ready, ReadyWire, Wire, WireFault};
 use std::alloc::{Allocator, Global};
@@ -150,7 +150,7 @@ impl ServerObserver for Collecting<'_> {
         _table: &Table<A>,
     ) {}
 
-    fn on_dropped(&mut self, from: Endpoint) {
+    fn on_dropped(&mut self, from: Endpoint, _why: DropCause) {
         let _ = self.seen.push(Seen {
             from: Some(from),
             ..NOTHING

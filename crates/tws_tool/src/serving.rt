@@ -4,16 +4,15 @@ ghost use Rattle.std.specs.Prelude.{◌≡◌, ◌≤◌, List, min, Some, None,
 ghost use Rattle.tftp_ends.specs.declared.limits.TheConstants.{MAX_FILE};
 ghost use Rattle.archive_keepers.specs.Limited.{own_calls};
 ghost use Rattle.archive_table.specs.Keeper.{Keeping};
-ghost use Rattle.archive_table.specs.declared.limits.TheConstants.{LIVE};
-ghost use Rattle.archive_server.specs.Turn.{fresh_server};
-ghost use Rattle.archive_commands.specs.Serve.{ServeRan, Served, ServedFrom};
+ghost use Rattle.archive_server.specs.Turn.{fresh_server, open_policies};
+ghost use Rattle.archive_commands.specs.Serve.{HasPolicies, ServeRan, Served, ServedFrom};
 
 use crate::served_folder::{keeper_of, report_unloaded};
 use archive_commands::{ServeArguments, Service, bad_address};
 use archive_host::{DirKeeper, HostFolder, UdpWire};
 use archive_keepers::{NoKeeper, ServedKeeper};
 use archive_log::{ReportingKeeper, ServerLog};
-use archive_server::{Server, ServerObserver};
+use archive_server::{Policies, Server, ServerObserver};
 use archive_table::NoObserver;
 use arrayvec::ArrayString;
 use command_line::{FAILED, ToolFault, report, report_cause};
@@ -76,13 +75,14 @@ fn history_of<P: Files<File = File> + AllocGlobal + Copy, E: Write>(
     }
 }
 
-// Where and how a server serves: this host's address, and what was asked for.
+// Where and how a server serves: this host's address, the policies, and what was asked for.
 #[derive(Drop)]
 struct Serving<'a, P> {
     rt: P,
     alloc: Global,
     arguments: &'a ServeArguments,
     host: u32,
+    policies: Policies,
 }
 
 impl<'a, P: Files<File = File> + Net + Clock + RandomSource + Eprint + AllocGlobal + Copy> Serving<
@@ -98,18 +98,24 @@ impl<'a, P: Files<File = File> + Net + Clock + RandomSource + Eprint + AllocGlob
         out: &mut W,
         errors: &mut E,
     ) -> u8
-        requires fresh { server ≡ fresh_server LIVE server.table }
+        requires fresh { server ≡ fresh_server open_policies server.table }
         requires port { server.table.request ≡ self.now.arguments.now.port }
         // What is longer is refused by such a keeper.
         requires limit { keeper.keeper.limit ≡ min self.now.arguments.now.limit MAX_FILE }
-        ensures served { (last : K) × (entries : List Keeping) × Served self.now.arguments.now.port self.now.arguments.now.turns self.now.arguments.now.per_host server.table result (K.usable last) None None (own_calls (K.calls keeper.keeper.keeper) keeper.keeper.entries) (own_calls (K.calls last) entries) (W.contents out.old) (W.contents out.new) }
+        ensures served { (last : K) × (entries : List Keeping) × Served self.now.arguments.now.port self.now.arguments.now.turns self.now.policies server.table result (K.usable last) None None (own_calls (K.calls keeper.keeper.keeper) keeper.keeper.entries) (own_calls (K.calls last) entries) (W.contents out.old) (W.contents out.new) }
         ensures silent { result ≡ 0 → errors.new ≡ errors.old }
     {
         let (host, port) = (self.host, self.arguments.port);
         match UdpWire::listen_at(self.rt, Endpoint { host, port }) {
-            Ok(mut wire) => Service::new(self.arguments, host, server, keeper, observer).run(
-                self.alloc, &mut wire, out, errors,
-            ),
+            Ok(mut wire) => Service::new(
+                self.arguments,
+                host,
+                self.policies,
+                server,
+                keeper,
+                observer,
+            )
+            .run(self.alloc, &mut wire, out, errors),
             Err(cause) => no_port(port, &cause, errors),
         }
     }
@@ -122,9 +128,9 @@ impl<'a, P: Files<File = File> + Net + Clock + RandomSource + Eprint + AllocGlob
         out: &mut W,
         errors: &mut E,
     ) -> u8
-        requires fresh { server ≡ fresh_server LIVE server.table }
+        requires fresh { server ≡ fresh_server open_policies server.table }
         requires port { server.table.request ≡ self.now.arguments.now.port }
-        ensures served { (last : K) × (entries more : List Keeping) × Served self.now.arguments.now.port self.now.arguments.now.turns self.now.arguments.now.per_host server.table result (K.usable last) None None (own_calls (K.calls keeper) entries) (own_calls (K.calls last) more) (W.contents out.old) (W.contents out.new) }
+        ensures served { (last : K) × (entries more : List Keeping) × Served self.now.arguments.now.port self.now.arguments.now.turns self.now.policies server.table result (K.usable last) None None (own_calls (K.calls keeper) entries) (own_calls (K.calls last) more) (W.contents out.old) (W.contents out.new) }
         ensures silent { result ≡ 0 → errors.new ≡ errors.old }
     {
         let arguments = self.arguments;
@@ -151,7 +157,8 @@ impl<'a, P: Files<File = File> + Net + Clock + RandomSource + Eprint + AllocGlob
         out: &mut W,
         errors: &mut E,
     ) -> u8
-        requires { option_map string_bytes self.now.arguments.now.dir ≡ Some name.now }
+        requires folder { option_map string_bytes self.now.arguments.now.dir ≡ Some name.now }
+        requires policies { HasPolicies self.now.arguments.now self.now.policies }
         ensures served { ServedFrom self.now.arguments.now result (W.contents out.old) (W.contents out.new) }
         ensures silent { result ≡ 0 → errors.new ≡ errors.old }
     {
@@ -163,6 +170,7 @@ impl<'a, P: Files<File = File> + Net + Clock + RandomSource + Eprint + AllocGlob
 
     // Serves with the collections kept in the folder that was given, if one was.
     fn serve<W: Write, E: Write>(&self, out: &mut W, errors: &mut E) -> u8
+        requires { HasPolicies self.now.arguments.now self.now.policies }
         ensures served { ServedFrom self.now.arguments.now result (W.contents out.old) (W.contents out.new) }
         ensures silent { result ≡ 0 → errors.new ≡ errors.old }
     {
@@ -192,11 +200,16 @@ pub(crate) fn run<
         let address = arguments.address.as_deref().unwrap_or("");
         return bad_address(address, "not an IPv4 address", errors);
     };
+    let Some(policies) = arguments.policies() else {
+        let hosts = arguments.put_from.as_deref().unwrap_or("");
+        return bad_address(hosts, "not a list of at most 16 IPv4 addresses", errors);
+    };
     let serving = Serving {
         rt,
         alloc,
         arguments,
         host,
+        policies,
     };
     serving.serve(out, errors)
 }
