@@ -1,5 +1,5 @@
 -- The text of a server's address, and the host that it leads to.
-use Rattle.std.specs.Prelude.{◌≡◌, ◌<◌, ℕ, ◌+◌, ◌*◌, Bool, true, false, List, Option, IfSome, IfNone}
+use Rattle.std.specs.Prelude.{◌≡◌, ◌<◌, ◌==◌, ℕ, ◌+◌, ◌*◌, Bool, true, false, List, [], count_by, codes, if◌then◌else◌, Option, IfSome, IfNone}
 use Rattle.std.specs.Char.{is_ascii_alphabetic}
 use Rattle.std.specs.List.{list_any}
 use Rattle.std.specs.Net.Text.{dotted_text}
@@ -28,3 +28,10 @@ pub record Locates (host_of : List ℕ → Option (Option ℕ)) (text : List ℕ
   pub address : has_letter text ≡ false → IfSome found (IsAddress text)
   pub none : has_letter text ≡ false → IfNone found (IsNoAddress text)
   pub name : has_letter text ≡ true → IfSome (host_of text) (λ (host : Option ℕ). found ≡ host)
+
+-- what helps with an address that cannot be used, by the number of its colons
+abbrev pub hint_for : (colons : ℕ) → List ℕ
+hint_for colons = if colons == 0 then [] else (if colons == 1 then codes "; --port gives the port" else codes "; only IPv4 is used")
+
+abbrev pub address_hint : (text : List ℕ) → List ℕ
+address_hint text = hint_for (count_by (λ b. b == 58) text)

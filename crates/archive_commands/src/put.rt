@@ -17,12 +17,12 @@ ghost use Rattle.command_line.specs.Faults.{IsReadOut};
 ghost use Rattle.archive_commands.specs.Faults.{run_fault};
 ghost use Rattle.archive_commands.specs.Lines.{Unless};
 
-use crate::address::locate;
+use crate::address::{Address, locate};
 use crate::arguments::{address_argument, file_argument, port_argument, target_given};
 use crate::file_bytes::FileBytes;
 use crate::limits::ROUNDS;
 use crate::line::write_line;
-use crate::reporting::{finish_transfer, no_host};
+use crate::reporting::{finish_transfer, no_host, swapped};
 use crate::resolver::Resolver;
 use crate::run_fault::of_run;
 use crate::target::Target;
@@ -152,6 +152,20 @@ pub fn put_file<R: Read, N: TransferWire, W: Write>(
     }
 }
 
+// Reports that ADDRESS leads to no host, and returns the status.
+fn not_located<E: Write>(arguments: &PutArguments, errors: &mut E) -> u8
+    ensures { result ≡ 1 }
+{
+    let address = arguments.target.address.as_str();
+    match &arguments.source {
+        Source::Named(name)
+            if Address::read(name.as_str()).is_some() || address.ends_with(".tws") => {
+            swapped(address, errors)
+        }
+        _ => no_host(address, errors),
+    }
+}
+
 /// Runs `put` over this wire, and returns the status.
 pub fn run<S: FileSystem + Resolver, N: TransferWire, R: Read, W: Write, E: Write>(
     system: &S,
@@ -169,7 +183,7 @@ pub fn run<S: FileSystem + Resolver, N: TransferWire, R: Read, W: Write, E: Writ
 {
     let target = &arguments.target;
     let Some(host) = locate(system, target.address.as_str()) else {
-        return no_host(target.address.as_str(), errors);
+        return not_located(arguments, errors);
     };
     let port = target.port;
     let server = Endpoint { host, port };

@@ -2,6 +2,7 @@
 
 ghost use Rattle.std.specs.Prelude.{◌≡◌, ◌≤◌};
 ghost use Rattle.command_line.specs.Faults.{status_of, answer_status};
+ghost use Rattle.archive_commands.specs.Address.{address_hint};
 
 use crate::transfer_wire::TransferWire;
 use archive_client::Cause;
@@ -9,16 +10,25 @@ use byte_output::Printable;
 use command_line::{DONE, ToolFault, USAGE, report, report_cause};
 use std::io::Write;
 
+// What helps with an address that cannot be used: a port after a colon is the first that many try.
+fn hint_of(address: &str) -> &'static str
+    ensures { result.now ≡ address_hint address.now }
+{
+    let colons = address.bytes().filter(|byte| *byte == b':').count();
+    if colons == 0 {
+        ""
+    } else if colons == 1 {
+        "; --port gives the port"
+    } else {
+        "; only IPv4 is used"
+    }
+}
+
 /// Reports an address that cannot be used, with the reason in a second line, and returns the status.
 pub fn bad_address<E: Write>(address: &str, reason: &str, errors: &mut E) -> u8
     ensures { result ≡ 1 }
 {
-    // A port after a colon is the first that many try.
-    let hint = if address.contains(':') {
-        "; --port gives the port"
-    } else {
-        ""
-    };
+    let hint = hint_of(address);
     let _ = writeln!(errors, "tws: bad address");
     let _ = writeln!(errors, "tws: {address}: {reason}{hint}");
     USAGE
@@ -31,6 +41,17 @@ pub(crate) fn no_host<E: Write>(address: &str, errors: &mut E) -> u8
     bad_address(
         address,
         "neither an IPv4 address nor a host that can be found",
+        errors,
+    )
+}
+
+/// Reports that FILE seems to stand in the place of the address, and returns the status.
+pub(crate) fn swapped<E: Write>(address: &str, errors: &mut E) -> u8
+    ensures { result ≡ 1 }
+{
+    bad_address(
+        address,
+        "neither an IPv4 address nor a host that can be found; ADDRESS comes before FILE",
         errors,
     )
 }
