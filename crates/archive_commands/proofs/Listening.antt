@@ -129,11 +129,10 @@ pub serve_ran : (arguments : ServeArguments) (status host : ℕ) (policies : Pol
 serve_ran arguments status host policies old new is has served =
     let few = served_few arguments status old new served in
     record {
-      bad =
-          (
-            λ one. absurd (⊎_elim (λ zero_is. omega (arith, one, zero_is)) (λ two_is. omega (arith, one, two_is)) few),
-            λ never. absurd (⊎_elim (some_host (given_address arguments) host is) (some_putters (given_putters arguments) policies.putters has.putters_are) never),
-          );
+      bad = (
+        λ one. absurd (⊎_elim (λ zero_is. omega (arith, one, zero_is)) (λ two_is. omega (arith, one, two_is)) few),
+        λ never. absurd (⊎_elim (some_host (given_address arguments) host is) (some_putters (given_putters arguments) policies.putters has.putters_are) never),
+      );
       nowhere = λ one. absurd (⊎_elim (λ zero_is. omega (arith, one, zero_is)) (λ two_is. omega (arith, one, two_is)) few);
       served = λ other. served;
     }
