@@ -8,7 +8,8 @@ ghost use Rattle.tws_tool.specs.Jobs.{AsksFor, JobRuns, files_app, tws_app};
 
 use crate::serving;
 use archive_commands::{
-    GetArguments, Network, PutArguments, Resolver, ServeArguments, get, put, serve,
+    GetArguments, Network, PutArguments, Resolver, ServeArguments, SyncArguments, get, put, serve,
+    sync,
 };
 use clap::{ArgMatches, Command};
 use command_line::{add_command, new_program};
@@ -34,6 +35,8 @@ pub enum Job {
     Put(PutArguments),
     /// To fetch a collection from an archive.
     Get(GetArguments),
+    /// To bring what is better in one archive to another.
+    Sync(SyncArguments),
 }
 
 // The commands on files, in the order of the help.
@@ -54,7 +57,8 @@ pub(crate) fn command<'a>(alloc: Global, names: &'a [&'a str]) -> Result<Command
 {
     let program = add_command(file_commands(alloc, names), serve::command(alloc));
     let program = add_command(program, put::command(alloc));
-    add_command(program, get::command(alloc, names))
+    let program = add_command(program, get::command(alloc, names));
+    add_command(program, sync::command(alloc))
 }
 
 /// What the arguments of the command of this name ask for; `None` if they ask for nothing, or there is no such command.
@@ -72,11 +76,12 @@ pub(crate) fn asked(
         "serve" => Ok(serve::asked(alloc, words)?.map(Job::Serve)),
         "put" => Ok(put::asked(alloc, words)?.map(Job::Put)),
         "get" => Ok(get::asked(alloc, words)?.map(Job::Get)),
+        "sync" => Ok(sync::asked(alloc, words)?.map(Job::Sync)),
         _ => Ok(None),
     }
 }
 
-/// Does a job, and returns the status. Only `put` and `get` need a wire of `network`. `to_terminal` says whether `out` is a
+/// Does a job, and returns the status. Only `put`, `get` and `sync` need a wire of `network`. `to_terminal` says whether `out` is a
 /// terminal.
 pub(crate) fn run_job<
     S: FileSystem + Resolver,
@@ -112,6 +117,10 @@ pub(crate) fn run_job<
         Job::Get(arguments) => {
             let wire = &mut network.wire(alloc);
             get::run(system, wire, alloc, arguments, out, errors)
+        }
+        Job::Sync(arguments) => {
+            let wire = &mut network.wire(alloc);
+            sync::run(system, wire, alloc, arguments, out, errors)
         }
     }
 }

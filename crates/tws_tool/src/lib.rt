@@ -14,7 +14,8 @@ mod words;
 
 pub use archive_commands::{
     GetArguments, GetFault, Network, PER_HOST, PORT, PutArguments, ROUNDS, Resolver,
-    ServeArguments, Service, TURNS, Target, TransferWire, TurnLimit, get_file, put_file,
+    ServeArguments, Service, SyncArguments, TURNS, Target, TransferWire, TurnLimit, get_file,
+    put_file,
 };
 pub use archive_host::{DirKeeper, HostFolder, OpenFault, UdpWire};
 pub use archive_memory::{Entry, MemoryWire};

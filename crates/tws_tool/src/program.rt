@@ -63,11 +63,11 @@ fn run_answer<
 
 /// Does what the arguments ask for, and returns the exit status. The first argument is the program's name; `to_terminal` says
 /// whether `out` is a terminal. The files of
-/// `system` are read and replaced, and `put` and `get` go over a wire of `network` to the hosts that `system` finds; the
+/// `system` are read and replaced, and `put`, `get` and `sync` go over a wire of `network` to the hosts that `system` finds; the
 /// folder and the sockets of `serve` are the runtime's.
 ///
 /// A fault goes to `errors`, on one line or two. The status is 0 if all was done, and for help, whose text goes to `out`; 1 for
-/// a usage error or a bad address; 2 if reading, writing, a socket or memory failed; 3 for an unreadable solution file;
+/// a usage error, a bad address, or archives without a level in common; 2 if reading, writing, a socket or memory failed; 3 for an unreadable solution file;
 /// 4 for a failed transfer.
 pub fn run_words_with<
     S: FileSystem + Resolver,

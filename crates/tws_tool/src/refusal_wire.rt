@@ -15,11 +15,13 @@ use tftp_packet::{Endpoint, Out, Packet, decode};
 // How many bytes of a refusal are kept.
 const REFUSAL: usize = 128;
 
-/// A wire over ports of the system that notes the text of the last ERROR that is received. In all else it is the wire below.
+/// A wire over ports of the system that notes the text of the last ERROR that is received, and closes a port once the next
+/// one is open: else what still arrives there would keep a later transfer from its wait. In all else it is the wire below.
 #[derive(Drop)]
 pub(crate) struct RefusalWire<P: Net + Clock + RandomSource + AllocGlobal + Copy> {
     wire: UdpWire<P>,
     refusal: ArrayVec<u8, REFUSAL>,
+    port: Option<u16>,
 }
 
 impl<P: Net + Clock + RandomSource + AllocGlobal + Copy> RefusalWire<P> {
@@ -29,6 +31,7 @@ impl<P: Net + Clock + RandomSource + AllocGlobal + Copy> RefusalWire<P> {
         RefusalWire {
             wire,
             refusal: ArrayVec::new(),
+            port: None,
         }
     }
 }
@@ -49,10 +52,21 @@ impl<P: Net + Clock + RandomSource + AllocGlobal + Copy> Wire for RefusalWire<P>
     ghost failed = { λ w. ⟦<UdpWire<P> as Wire>⟧.failed w.wire };
 
     fn open(&mut self) -> Result<u16, WireFault> {
-        self.wire.open()
+        let port = match self.wire.open() {
+            Ok(port) => port,
+            Err(fault) => return Err(fault),
+        };
+        if let Some(last) = self.port {
+            let _ = self.wire.close(last);
+        }
+        self.port = Some(port);
+        Ok(port)
     }
 
     fn close(&mut self, port: u16) -> Result<(), WireFault> {
+        if self.port == Some(port) {
+            self.port = None;
+        }
         self.wire.close(port)
     }
 
