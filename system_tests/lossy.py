@@ -1,5 +1,6 @@
 #!/usr/bin/env python3
-"""A proxy for TFTP over UDP that loses datagrams: lossy.py PORT SEED, for a server at PORT of this host.
+"""A proxy for TFTP over UDP that loses datagrams: lossy.py PORT SEED [HOST], for a server at PORT of this host, or
+of another of its addresses.
 
 It prints the port at which it takes requests, and at SIGTERM how many datagrams it dropped, repeated, delayed and reordered.
 Each is done to a tenth of the datagrams of both directions: a delay is up to 0.2 s, and one that is reordered is held back
@@ -26,8 +27,8 @@ def opened():
 
 
 class Proxy:
-    def __init__(self, port, seed):
-        self.server = ("127.0.0.1", port)
+    def __init__(self, port, seed, host="127.0.0.1"):
+        self.server = (host, port)
         self.draw = random.Random(seed)
         self.selector = selectors.DefaultSelector()
         self.counts = {"passed": 0, "dropped": 0, "repeated": 0, "delayed": 0, "reordered": 0}
@@ -133,7 +134,7 @@ class Proxy:
 
 
 def main():
-    proxy = Proxy(int(sys.argv[1]), int(sys.argv[2]))
+    proxy = Proxy(int(sys.argv[1]), int(sys.argv[2]), *sys.argv[3:])
 
     def end(*_):
         print(" ".join(f"{name} {count}" for name, count in proxy.counts.items()), flush=True)
