@@ -1,4 +1,5 @@
-//! Tests only: keeps in a folder, each call of which fails in turn, and what a crash leaves; keeps with a limit.
+//! Tests only: keeps in a folder, each call of which fails in turn, and what a crash leaves; keeps with a limit, and of
+//! solutions that stop Tile World.
 #![tactic(auto)]
 
 #[cfg(test)]
@@ -9,3 +10,5 @@ mod full_disk;
 mod limits;
 #[cfg(test)]
 mod samples;
+#[cfg(test)]
+mod solutions;
