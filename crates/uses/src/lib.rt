@@ -12,6 +12,7 @@ pub mod calling_archive_memory;
 pub mod calling_archive_progress;
 pub mod calling_archive_runs;
 pub mod calling_archive_server;
+pub mod calling_archive_sync;
 pub mod calling_archive_table;
 pub mod calling_archive_wire;
 pub mod calling_archive_world;
