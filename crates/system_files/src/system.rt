@@ -34,7 +34,12 @@ impl<P: Files<File = File> + RandomSource + AllocGlobal + Copy> System<P> {
         // A FIFO that nobody reads would not be opened to be written. One that is open to be read and written is: without
         // another reader, a write then fails.
         let held = if is_fifo {
-            Some(OpenOptions::new().read(true).write(true).open(&self.0, name)?)
+            Some(
+                OpenOptions::new()
+                    .read(true)
+                    .write(true)
+                    .open(&self.0, name)?,
+            )
         } else {
             None
         };
@@ -50,7 +55,10 @@ impl<P: Files<File = File> + RandomSource + AllocGlobal + Copy> System<P> {
     // that may be written. What a link leads to is replaced, not the link. The draft is made and removed at once, to see
     // whether that can be done: so none is left if the process ends before the draft is written.
     fn begin_beside(&self, name: &str, is_new: bool) -> io::Result<SystemDraft<P>> {
-        let file = OpenOptions::new().write(true).create(is_new).open(&self.0, name)?;
+        let file = OpenOptions::new()
+            .write(true)
+            .create(is_new)
+            .open(&self.0, name)?;
         let target = fs::canonicalize(&self.0, name)?;
         let mut beside = DraftFile::new(target, file.metadata()?);
         beside.make(&self.0)?;
