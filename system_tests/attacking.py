@@ -67,11 +67,12 @@ def done(process, seconds=100):
 
 
 class Server:
-    def __init__(self, *words, **settings):
+    # Most files of the attacks have solutions without moves.
+    def __init__(self, *words, takes=("--any-solution",), **settings):
         while True:
             LAST_PORT[0] += 1
             self.port = LAST_PORT[0]
-            self.process = run("serve", "--port", self.port, *words, **settings)
+            self.process = run("serve", *takes, "--port", self.port, *words, **settings)
             if self.process.stdout.readline() == b"serving on port %d\n" % self.port:
                 return
             self.process.wait()

@@ -437,6 +437,18 @@ def a_full_disk_loses_nothing():
             subprocess.run(["umount", folder])
 
 
+def no_solution_stops_tile_world():
+    """A put that would add a solution without moves or of level 0 is refused, though it is better; what was there is served."""
+    good = file("good.tws", record(1, moves=b"\0"))
+    with Server(takes=()) as server:
+        check("a solution with moves", server.put(good)[0] == 0)
+        for name, bad in (("no moves", record(1, ticks=1)), ("level 0", record(0, b"\0ABC", moves=b"\0"))):
+            told = server.put(file("bad.tws", bad, record(2, moves=b"\0")))[:2]
+            check(f"a solution of {name}: {told}", told == (4, b"tws: transfer failed: refused 0\ntws: the server says: not kept\n"))
+            check(f"what is served after {name}", server.get()[0] == 0 and loaded(os.path.join(FOLDER, "got")) == loaded(good))
+        print("solutions without moves and of level 0: the put is refused")
+
+
 def records_of(path):
     """The records of a file, of 1,000 bytes each."""
     text = loaded(path)[len(HEADER):]
@@ -462,6 +474,7 @@ def main():
         a_dallying_transfer_gives_way,
         ports_are_drawn,
         no_collection_outgrows_what_can_be_served,
+        no_solution_stops_tile_world,
         a_full_disk_loses_nothing,
     ]
     try:

@@ -81,7 +81,7 @@ class Archive:
         """Starts the server, on the next port that is free."""
         for _ in range(100):
             self.port += 1
-            self.server = run("serve", "--port", self.port, "--dir", self.kept)
+            self.server = run("serve", "--any-solution", "--port", self.port, "--dir", self.kept)
             if self.server.stdout.readline() == b"serving on port %d\n" % self.port:
                 return
             self.server.wait()

@@ -8,6 +8,8 @@ failed=0
 skipped=0
 server=
 port=41000
+# Most files of these tests have solutions without moves.
+takes=(--any-solution)
 
 # stop [SIGNAL]: ends the server that this script started.
 stop() {
@@ -60,7 +62,7 @@ listening() {
 start() {
     for _ in $(seq 100); do
         port=$((port + 1))
-        ./tws serve --port "$port" "$@" >"$work/serving" 2>"$work/serving.errors" </dev/null &
+        ./tws serve --port "$port" "${takes[@]}" "$@" >"$work/serving" 2>"$work/serving.errors" </dev/null &
         server=$!
         listening && return 0
         stop

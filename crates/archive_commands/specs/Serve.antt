@@ -51,6 +51,9 @@ dir_rule = text_rule (codes "dir")
 abbrev pub log_rule : Rule
 log_rule = record (new_rule (codes "log")) { long = Some (codes "log"); action = Some SetTrue }
 
+abbrev pub any_rule : Rule
+any_rule = record (new_rule (codes "any-solution")) { long = Some (codes "any-solution"); action = Some SetTrue }
+
 abbrev pub history_rule : Rule
 history_rule = text_rule (codes "history")
 
@@ -63,9 +66,13 @@ numbers_app =
 abbrev pub places_app : App
 places_app = with_rule (with_rule (with_rule numbers_app bound_rule) put_from_rule) dir_rule
 
--- `serve [--port N] [--turns N] [--per-host N] [--limit BYTES] [--address A.B.C.D] [--put-from A.B.C.D[,A.B.C.D..]] [--dir DIR] [--log] [--history DIR]`
+-- with all options but one
+abbrev pub logging_app : App
+logging_app = with_rule (with_rule places_app log_rule) history_rule
+
+-- `serve [--port N] [--turns N] [--per-host N] [--limit BYTES] [--address A.B.C.D] [--put-from A.B.C.D[,A.B.C.D..]] [--dir DIR] [--log] [--history DIR] [--any-solution]`
 abbrev pub serve_app : App
-serve_app = with_rule (with_rule places_app log_rule) history_rule
+serve_app = with_rule logging_app any_rule
 
 -- what was found for its arguments
 pub record AsksToServe (rows : List Row) (arguments : ServeArguments) : Type 0 where
@@ -76,6 +83,7 @@ pub record AsksToServe (rows : List Row) (arguments : ServeArguments) : Type 0 w
   pub address_is : option_map string_bytes arguments.address ≡ first_of bound_rule.id rows
   pub put_from_is : option_map string_bytes arguments.put_from ≡ first_of put_from_rule.id rows
   pub dir_is : option_map string_bytes arguments.dir ≡ first_of dir_rule.id rows
+  pub any_is : HasFlag any_rule rows arguments.any_solution
   pub log_is : HasFlag log_rule rows arguments.log
   pub history_is : option_map string_bytes arguments.history ≡ first_of history_rule.id rows
 

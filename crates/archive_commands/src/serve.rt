@@ -6,7 +6,7 @@ ghost use Rattle.clap.specs.Words.{app_of, rows_of, rule_of};
 ghost use Rattle.clap.specs.declared.builder.command.Command.TheViews.{out-Command};
 ghost use Rattle.command_line.specs.Arguments.{Answers};
 ghost use Rattle.archive_commands.specs.Arguments.{number_rule};
-ghost use Rattle.archive_commands.specs.Serve.{AsksToServe, HasHost, IsNoHost, given_address, limit_option, log_rule, numbers_app, per_host_option, places_app, serve_app, text_rule, turns_option};
+ghost use Rattle.archive_commands.specs.Serve.{AsksToServe, HasHost, IsNoHost, any_rule, given_address, limit_option, log_rule, logging_app, numbers_app, per_host_option, places_app, serve_app, text_rule, turns_option};
 
 use crate::address::Address;
 use crate::arguments::{flag_given, number_argument, number_given, port_argument, port_given};
@@ -35,6 +35,8 @@ pub struct ServeArguments {
     pub put_from: Option<String>,
     /// The folder that keeps the collections, if any.
     pub dir: Option<String>,
+    /// Whether solutions are kept that stop Tile World.
+    pub any_solution: bool,
     /// Whether each event is logged to standard error.
     pub log: bool,
     /// The folder that keeps each file that changes a collection, if any.
@@ -88,6 +90,16 @@ fn log_argument<'a>(alloc: Global) -> Arg<'a>
         .long("log")
         .action(ArgAction::SetTrue)
         .help("With a line on standard error for each event")
+}
+
+fn any_argument<'a>(alloc: Global) -> Arg<'a>
+    ensures rule { rule_of result ≡ any_rule }
+    ensures local { result.global ≡ false }
+{
+    Arg::new(alloc, "any-solution")
+        .long("any-solution")
+        .action(ArgAction::SetTrue)
+        .help("Keep solutions without moves and of level 0 too, which stop Tile World")
 }
 
 fn turns_argument<'a>(alloc: Global) -> Arg<'a>
@@ -162,13 +174,9 @@ fn places_command<'a>(alloc: Global) -> Result<Command<'a>, AllocError>
         .arg(text_argument(alloc, "dir", "DIR", "The folder that keeps the collections"))
 }
 
-/// The command line of `serve`.
-///
-/// # Errors
-///
-/// If an allocation was refused.
-pub fn command<'a>(alloc: Global) -> Result<Command<'a>, AllocError>
-    ensures app { IfOk result (λ command. app_of command ≡ serve_app) }
+// The command with all options but `--any-solution`.
+fn logging_command<'a>(alloc: Global) -> Result<Command<'a>, AllocError>
+    ensures app { IfOk result (λ command. app_of command ≡ logging_app) }
     ensures local { IfOk result (λ command. (out-Command command).has_globals ≡ false) }
 {
     places_command(alloc)?
@@ -179,6 +187,18 @@ pub fn command<'a>(alloc: Global) -> Result<Command<'a>, AllocError>
             "DIR",
             "The folder that keeps each file that changes a collection",
         ))
+}
+
+/// The command line of `serve`.
+///
+/// # Errors
+///
+/// If an allocation was refused.
+pub fn command<'a>(alloc: Global) -> Result<Command<'a>, AllocError>
+    ensures app { IfOk result (λ command. app_of command ≡ serve_app) }
+    ensures local { IfOk result (λ command. (out-Command command).has_globals ≡ false) }
+{
+    logging_command(alloc)?.arg(any_argument(alloc))
 }
 
 /// What the arguments ask for; `None` if a number is out of range.
@@ -200,6 +220,7 @@ pub fn asked(alloc: Global, words: &ArgMatches) -> Result<Option<ServeArguments>
     let address = string_given(alloc, words, "address")?;
     let put_from = string_given(alloc, words, "put-from")?;
     let dir = string_given(alloc, words, "dir")?;
+    let any_solution = flag_given(words, "any-solution");
     let log = flag_given(words, "log");
     let history = string_given(alloc, words, "history")?;
     Ok(Some(ServeArguments {
@@ -210,6 +231,7 @@ pub fn asked(alloc: Global, words: &ArgMatches) -> Result<Option<ServeArguments>
         address,
         put_from,
         dir,
+        any_solution,
         log,
         history,
     }))

@@ -14,8 +14,8 @@ pub fn words_of_commands()
     ensures moves { AskFor (codes "show" ∷ codes "--moves" ∷ []) (Files (Show (record { source = Standard; moves = true; csv = false; output = None }))) }
     ensures csv { AskFor (codes "show" ∷ codes "--csv" ∷ []) (Files (Show (record { source = Standard; moves = false; csv = true; output = None }))) }
     ensures pack { AskFor (codes "pack" ∷ codes "-" ∷ []) (Files (Pack (record { source = Standard; output = None }))) }
-    ensures serve { AskFor (codes "serve" ∷ []) (Serve (record { port = 6969; turns = 1000000000; per_host = 32; limit = 33553919; address = None; put_from = None; dir = None; log = false; history = None })) }
-    ensures counted { AskFor (codes "serve" ∷ codes "--port" ∷ codes "80" ∷ codes "--turns=5" ∷ []) (Serve (record { port = 80; turns = 5; per_host = 32; limit = 33553919; address = None; put_from = None; dir = None; log = false; history = None })) }
+    ensures serve { AskFor (codes "serve" ∷ []) (Serve (record { port = 6969; turns = 1000000000; per_host = 32; limit = 33553919; address = None; put_from = None; dir = None; any_solution = false; log = false; history = None })) }
+    ensures counted { AskFor (codes "serve" ∷ codes "--port" ∷ codes "80" ∷ codes "--turns=5" ∷ []) (Serve (record { port = 80; turns = 5; per_host = 32; limit = 33553919; address = None; put_from = None; dir = None; any_solution = false; log = false; history = None })) }
     ensures version { AskWhy (codes "--version" ∷ []) DisplayVersion }
     ensures short { AskWhy (codes "-V" ∷ []) DisplayVersion }
 {}

@@ -1,8 +1,9 @@
 //! The command `serve` over the system: its folder, its port, its log and its history.
 
-ghost use Rattle.std.specs.Prelude.{◌≡◌, ◌≤◌, List, min, Some, None, IfSome, option_map, string_bytes};
+ghost use Rattle.std.specs.Prelude.{◌≡◌, ◌≤◌, List, [], min, unwrap_or, Some, None, IfSome, option_map, string_bytes};
 ghost use Rattle.tftp_ends.specs.declared.limits.TheConstants.{MAX_FILE};
 ghost use Rattle.archive_keepers.specs.Limited.{own_calls};
+ghost use Rattle.archive_keepers.specs.Readable.{no_counts};
 ghost use Rattle.archive_table.specs.Keeper.{Keeping};
 ghost use Rattle.archive_server.specs.Turn.{fresh_server, open_policies};
 ghost use Rattle.archive_commands.specs.Serve.{HasPolicies, ServeRan, Served, ServedFrom};
@@ -10,10 +11,10 @@ ghost use Rattle.archive_commands.specs.Serve.{HasPolicies, ServeRan, Served, Se
 use crate::served_folder::{keeper_of, report_unloaded};
 use archive_commands::{ServeArguments, Service, bad_address};
 use archive_host::{DirKeeper, HostFolder, UdpWire};
-use archive_keepers::{NoKeeper, ServedKeeper};
+use archive_keepers::{NoKeeper, Readable, ServedKeeper};
 use archive_log::{ReportingKeeper, ServerLog};
 use archive_server::{Policies, Server, ServerObserver};
-use archive_table::NoObserver;
+use archive_table::{Keeper, NoObserver};
 use arrayvec::ArrayString;
 use command_line::{FAILED, ToolFault, report, report_cause};
 use log::sink::Console;
@@ -149,10 +150,17 @@ impl<'a, P: Files<File = File> + Net + Clock + RandomSource + Eprint + AllocGlob
         }
     }
 
+    // A keeper over this one that takes the solutions which were asked for.
+    fn readable<K: Keeper>(&self, keeper: K) -> Readable<K>
+        ensures { result ≡ record { keeper = keeper; any = self.now.arguments.now.any_solution; counts = no_counts; refused = 0; entries = unwrap_or (K.calls keeper) [] } }
+    {
+        Readable::new(keeper, self.alloc, self.arguments.any_solution)
+    }
+
     // Serves with what this keeper of the folder of this name has.
     fn serve_folder<W: Write, E: Write>(
         &self,
-        mut keeper: DirKeeper<P>,
+        mut keeper: Readable<DirKeeper<P>>,
         name: &str,
         out: &mut W,
         errors: &mut E,
@@ -176,10 +184,10 @@ impl<'a, P: Files<File = File> + Net + Clock + RandomSource + Eprint + AllocGlob
     {
         let Some(dir) = self.arguments.folder() else {
             let server = Server::new(self.alloc, self.arguments.port);
-            return self.serve_kept(server, NoKeeper, out, errors);
+            return self.serve_kept(server, self.readable(NoKeeper), out, errors);
         };
         match keeper_of(self.rt, dir, errors) {
-            Some(keeper) => self.serve_folder(keeper, dir, out, errors),
+            Some(keeper) => self.serve_folder(self.readable(keeper), dir, out, errors),
             None => FAILED,
         }
     }

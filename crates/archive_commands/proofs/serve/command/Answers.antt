@@ -1,17 +1,15 @@
 use Rattle.std.proofs.lemmas.Result.{IfOk-weaker}
-use Rattle.clap.specs.Words.{with_rule}
-use Rattle.archive_commands.specs.Serve.{history_rule, log_rule, places_app}
+use Rattle.archive_commands.specs.Serve.{any_rule, logging_app}
 use Rattle.command_line.proofs.Building.{adds_rule, stays_local}
 use Rattle.archive_commands.proofs.serve.command.Goals as goal
 
 pub returns-clause-app : goal.returns-clause-app
 returns-clause-app c =
-    let first = adds_rule _ _ _ places_app log_rule c.in_ok-places_command.ensures.app c.log_argument.ensures.rule c.log_argument.ensures.local c.in_ok-arg.ensures in
-    IfOk-weaker c.arg-2.result _ _
-    (λ command adds. adds_rule _ _ command (with_rule places_app log_rule) history_rule first c.text_argument.ensures.rule c.text_argument.ensures.local adds)
-    c.arg-2.ensures
+    IfOk-weaker c.arg.result _ _
+    (λ command adds. adds_rule _ _ command logging_app any_rule c.in_ok-logging_command.ensures.app c.any_argument.ensures.rule c.any_argument.ensures.local adds)
+    c.arg.ensures
 
 pub returns-clause-local : goal.returns-clause-local
 returns-clause-local c =
-    let first = stays_local _ _ _ c.in_ok-places_command.ensures.local c.log_argument.ensures.local c.in_ok-arg.ensures in
-    IfOk-weaker c.arg-2.result _ _ (λ command adds. stays_local _ _ command first c.text_argument.ensures.local adds) c.arg-2.ensures
+    IfOk-weaker c.arg.result _ _
+    (λ command adds. stays_local _ _ command c.in_ok-logging_command.ensures.local c.any_argument.ensures.local adds) c.arg.ensures
