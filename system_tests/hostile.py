@@ -271,10 +271,15 @@ def gets_write_before_they_dally():
 
 
 def puts_stop_reading():
-    """A file without end is left once it is longer than a file may be."""
+    """A file without end is left once it is known to be none, or is longer than a file may be."""
     status, text, took = done(run("put", "127.0.0.1", "/dev/zero", "--port", 9))
     print(f"put /dev/zero: {took:.2f} s")
-    check("a file without end", status == 4 and text == b"tws: transfer failed: too long\n" and took < 10)
+    check("a file without end", status == 3 and text.startswith(b"tws: /dev/zero: unreadable: BadSignature\n") and took < 1)
+    with subprocess.Popen(["cat", file("pads.tws"), "/dev/zero"], stdout=subprocess.PIPE) as pads:
+        status, text, took = done(run("put", "127.0.0.1", f"/proc/{os.getpid()}/fd/{pads.stdout.fileno()}", "--port", 9))
+        pads.stdout.close()
+    print(f"pads without end: {took:.2f} s")
+    check("pads without end", status == 4 and text == b"tws: transfer failed: too long\n" and took < 10)
 
 
 def as_many_blocks_as_there_are_numbers():

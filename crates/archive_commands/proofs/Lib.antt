@@ -5,3 +5,4 @@ pub mod Listing
 pub mod Sending
 pub mod Statuses
 pub mod Syncs
+pub mod Taking

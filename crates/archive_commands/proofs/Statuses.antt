@@ -5,11 +5,6 @@ use Rattle.command_line.specs.declared.tool_fault.ToolFault.TheVariants.{Read, W
 use Rattle.command_line.specs.Faults.{answer_status, status_of}
 use Rattle.archive_commands.specs.Lines.{IsCutText, Says, Transfers, Unsaid}
 
--- a command none of whose faults blames an input has not status 3
-pub none_blamed : (r : Result (Unit {0}) ToolFault) → IfErr r (λ e. status_of e ≢ 3) → answer_status r ≢ 3
-none_blamed (Ok done) other = λ e. omega (arith, e)
-none_blamed (Err e) other = other
-
 -- ---- transfers
 
 some_host : (host : ℕ) → Some host ≢ None

@@ -1,10 +1,12 @@
 -- The command `put`: what it does over any wire, any file and any output.
-use Rattle.std.specs.Prelude.{◌≡◌, ◌≢◌, ◌⊎◌, ℕ, ◌<◌, ◌≤◌, List, length, Option, Some, IfSome, Result, Ok, Err, OnOk, IfErr, string_bytes, codes}
-use Rattle.std.specs.Io.KnownBytes.{Appends, Consumes}
+use Rattle.std.specs.Prelude.{◌≡◌, ◌≢◌, ◌⊎◌, ℕ, ◌<◌, ◌≤◌, List, ◌++◌, length, Option, Some, IfSome, Result, Ok, Err, OnOk, IfErr, string_bytes, codes}
+use Rattle.std.specs.Io.KnownBytes.{Appends, Consumes, IsAtEnd}
 use Rattle.clap.specs.Words.{App, Row, Text, new_app, with_rule}
 use Rattle.byte_output.specs.Output.{AppendsPrefix}
-use Rattle.tws_file.specs.Text.{IsReadable}
-use Rattle.tws_file.specs.Fault.{HasFileFault}
+use Rattle.tws_file.specs.declared.file_fault.FileFault.{FileFault}
+use Rattle.tws_file.specs.Text.{IsReadable, Record}
+use Rattle.tws_file.specs.Fault.{HasFileFault, IsLasting}
+use Rattle.tws_reader.specs.PartReader.{HasRead, PartReading}
 use Rattle.tftp_packet.specs.declared.endpoint.Endpoint.{Endpoint}
 use Rattle.tftp_ends.specs.declared.limits.TheConstants.{MAX_FILE}
 use Rattle.tftp_packet.specs.declared.cause.Cause.TheVariants as cause
@@ -14,6 +16,7 @@ use Rattle.archive_wire.specs.Wire.{Entry}
 use Rattle.archive_runs.specs.Rounds.{PutsInRounds}
 use Rattle.archive_commands.specs.declared.put.PutArguments.{PutArguments}
 use Rattle.archive_commands.specs.declared.limits.TheConstants.{ROUNDS}
+use Rattle.command_line.specs.declared.limits.TheConstants.{INPUT_PIECE}
 use Rattle.command_line.specs.declared.tool_fault.ToolFault.{ToolFault}
 use Rattle.command_line.specs.declared.tool_fault.ToolFault.TheVariants.{Read, Write, Unreadable, Memory, Socket, Transfer}
 use Rattle.archive_commands.specs.Address.{Locates}
@@ -43,20 +46,59 @@ pub record ReadsAtMost (most : ℕ) (old new : Option (List ℕ)) : Type 0 where
   pub consumed : Consumes old new bytes
   pub few : length bytes ≤ most
 
--- the bytes, if they are known, are more than a file may have
+-- the bytes have no fault that lasts whatever follows
+abbrev pub IsSound : List ℕ → Type 0
+IsSound bytes = (fault : FileFault) → IsLasting fault → HasFileFault bytes fault → ⊥
+
+-- these bytes of an input were kept, and read as they came
+pub record HasBytes (kept : List ℕ) (reader : PartReading) (bytes : List ℕ) : Type 0 where
+  pub same : kept ≡ bytes
+  pub short : length bytes ≤ MAX_FILE
+  pub records : List Record
+  pub read : HasRead reader records bytes
+  pub sound : IsSound bytes
+
+-- why an input that begins with these bytes is read no further
+abbrev pub RefusesBytes : List ℕ → ToolFault → Type 0
+RefusesBytes bytes Read = ⊥
+RefusesBytes bytes Write = ⊥
+RefusesBytes bytes (Unreadable index fault) = (index ≡ 0) × IsLasting fault × HasFileFault bytes fault
+RefusesBytes bytes Memory = Unit {0}
+RefusesBytes bytes Socket = ⊥
+RefusesBytes bytes (Transfer why) = (why ≡ cause.TooLong) × (MAX_FILE < length bytes) × IsSound bytes
+
+-- the last piece that was read of an input brought a fault that lasts
+pub record BreaksOff (fault : FileFault) (old new : Option (List ℕ)) : Type 0 where
+  pub bytes : List ℕ
+  pub piece : List ℕ
+  pub small : length piece ≤ INPUT_PIECE
+  pub consumed : Consumes old new (bytes ++ piece)
+  pub sound : IsSound bytes
+  pub lasts : IsLasting fault
+  pub is : HasFileFault (bytes ++ piece) fault
+
+-- an input that is reported as unreadable was read to its end, or up to a fault that lasts
+abbrev pub IsReadUp : (old new : Option (List ℕ)) → ToolFault → Type 0
+IsReadUp old new Read = Unit {0}
+IsReadUp old new Write = Unit {0}
+IsReadUp old new (Unreadable index fault) = IsAtEnd new ⊎ BreaksOff fault old new
+IsReadUp old new Memory = Unit {0}
+IsReadUp old new Socket = Unit {0}
+IsReadUp old new (Transfer why) = Unit {0}
+
+-- more bytes than a file may have, at the beginning of these, have no fault that lasts
+pub record BeginsLong (bytes : List ℕ) : Type 0 where
+  pub begin : List ℕ
+  pub rest : List ℕ
+  pub split : bytes ≡ begin ++ rest
+  pub long : MAX_FILE < length begin
+  pub sound : IsSound begin
+
+-- an input whose bytes, if they are known, begin so
 abbrev pub IsLong : (known : Option (List ℕ)) → Type 0
-IsLong known = IfSome known (λ (bytes : List ℕ). MAX_FILE < length bytes)
+IsLong known = IfSome known BeginsLong
 
--- an input was not read to its end, perhaps because it is too long
-abbrev pub InputFails : (known : Option (List ℕ)) → ToolFault → Type 0
-InputFails known Read = Unit {0}
-InputFails known Write = ⊥
-InputFails known (Unreadable index fault) = ⊥
-InputFails known Memory = Unit {0}
-InputFails known Socket = ⊥
-InputFails known (Transfer why) = (why ≡ cause.TooLong) × IsLong known
-
--- it is not a file's text either
+-- an input is not a file that can be sent, or was not read to its end
 abbrev pub WholeFails : (known : Option (List ℕ)) → ToolFault → Type 0
 WholeFails known Read = Unit {0}
 WholeFails known Write = ⊥

@@ -1,25 +1,26 @@
 //! The command `get`.
 
-ghost use Rattle.std.specs.Prelude.{◌≡◌, ◌≢◌, ◌⊎◌, false, OnOk, IfOk, IfErr};
+ghost use Rattle.std.specs.Prelude.{◌≡◌, ◌≢◌, ◌⊎◌, false, OnOk, OnErr, IfOk, IfErr};
 ghost use Rattle.clap.specs.Matches.{found_of};
 ghost use Rattle.clap.specs.Words.{app_of, rows_of};
 ghost use Rattle.clap.specs.declared.builder.command.Command.TheViews.{out-Command};
 ghost use Rattle.command_line.specs.Arguments.{Answers};
-ghost use Rattle.archive_commands.specs.Get.{AsksToGet, FetchFails, Fetches, GetFails, GetRan, Gets, get_app};
+ghost use Rattle.archive_commands.specs.Get.{AsksToGet, FetchFails, Fetches, GetFails, GetRan, Gets, Replaces, get_app};
 ghost use Rattle.command_line.specs.Faults.{status_of};
-ghost use Rattle.archive_commands.specs.Faults.{run_fault};
+ghost use Rattle.system_files.specs.Files.{Keeps};
 ghost use Rattle.archive_commands.specs.Lines.{Unless};
 
 use crate::address::locate;
 use crate::arguments::{address_argument, file_argument, port_argument, target_given};
 use crate::limits::ROUNDS;
 use crate::line::write_line;
-use crate::reporting::{no_host, report_transfer};
+use crate::received::receive;
+use crate::reporting::{no_host, report_received};
 use crate::resolver::Resolver;
-use crate::run_fault::of_run;
 use crate::target::Target;
 use crate::transfer_wire::TransferWire;
-use archive_runs::{GetRun, RunFault, get_in_rounds};
+use archive_runs::GetRun;
+use byte_output::put;
 use clap::{ArgMatches, Command};
 use command_line::{
     DONE, ToolFault, new_command, report_file, ruleset_argument, ruleset_given, string_given,
@@ -103,38 +104,48 @@ impl GetFault {
             cause: Some(cause),
         }
     }
-
-    // The transfer failed, whose file the system said this of, if a write into it failed.
-    fn of_run(fault: RunFault, cause: Option<io::Error>) -> Self
-        ensures { result.fault ≡ run_fault fault }
-    {
-        let cause = match fault {
-            RunFault::Write => cause,
-            RunFault::Socket | RunFault::Transfer(_) | RunFault::Memory => None,
-        };
-        GetFault {
-            fault: of_run(fault),
-            cause,
-        }
-    }
 }
 
-// Reports why a collection was not fetched into the file of this name, and returns the status.
+// Reports why a collection was not fetched, and returns the status.
 fn report_get<N: TransferWire, E: Write>(
     fault: GetFault,
-    name: &str,
+    arguments: &GetArguments,
     wire: &N,
     errors: &mut E,
 ) -> u8
     ensures { result ≡ status_of fault.fault }
 {
     match fault.cause {
-        Some(cause) => report_file(fault.fault, name, &cause, errors),
-        None => report_transfer(fault.fault, wire, &[], errors),
+        Some(cause) => report_file(fault.fault, arguments.file.as_str(), &cause, errors),
+        None => report_received(fault.fault, &arguments.target.address, wire, errors),
     }
 }
 
-// Fetches a collection into a draft, which then takes the place of the file of this name. Returns how many bytes it has,
+// Writes these bytes into a draft, which then takes the place of the file of this name.
+fn replace<S: FileSystem>(
+    system: &mut S,
+    name: &str,
+    mut draft: S::Draft,
+    bytes: &[u8],
+) -> Result<(), GetFault>
+    ensures replaced { OnOk result (Replaces name.now bytes.now (S.Draft.contents draft) (S.bytes_of system.old) (S.bytes_of system.new)) }
+    ensures kept { OnErr result (Keeps (S.bytes_of system.old) (S.bytes_of system.new)) }
+    ensures fault { IfErr result (λ e. e.fault ≡ ToolFault.Write) }
+{
+    if put(&mut draft, bytes).is_err() {
+        let cause = system.abandon(draft);
+        return Err(GetFault {
+            fault: ToolFault::Write,
+            cause,
+        });
+    }
+    match system.publish(name, draft) {
+        Ok(()) => Ok(()),
+        Err(cause) => Err(GetFault::of_file(cause)),
+    }
+}
+
+// Fetches a collection, whose bytes then take the place of the file of this name, by this draft. Returns how many they are,
 // and the run, which is to dally.
 fn fetch<S: FileSystem, N: TransferWire>(
     system: &mut S,
@@ -143,21 +154,19 @@ fn fetch<S: FileSystem, N: TransferWire>(
     server: Endpoint,
     ruleset: Ruleset,
     name: &str,
-    mut draft: S::Draft,
+    draft: S::Draft,
 ) -> Result<(u64, GetRun), GetFault>
     ensures fetched { IfOk result (λ got. Fetches server «ruleset» name.now got (N.calls wire.old) (N.calls wire.new) (S.Draft.contents draft) (S.bytes_of system.old) (S.bytes_of system.new)) }
-    ensures fails { IfErr result (λ e. FetchFails server «ruleset» (N.calls wire.old) (N.calls wire.new) (S.Draft.contents draft) (S.bytes_of system.old) (S.bytes_of system.new) e.fault) }
+    ensures fails { IfErr result (λ e. FetchFails server «ruleset» (N.calls wire.old) (N.calls wire.new) (S.bytes_of system.old) (S.bytes_of system.new) e.fault) }
 {
-    let fetched = get_in_rounds(alloc, wire, server, ruleset, ROUNDS, &mut draft);
-    wire.finish();
-    match fetched {
-        Ok(got) => match system.publish(name, draft) {
-            Ok(()) => Ok(got),
-            Err(cause) => Err(GetFault::of_file(cause)),
+    match receive(wire, alloc, server, ruleset) {
+        Ok(received) => match replace(system, name, draft, &received.bytes) {
+            Ok(()) => Ok((received.len, received.run)),
+            Err(fault) => Err(fault),
         },
         Err(fault) => {
-            let cause = system.abandon(draft);
-            Err(GetFault::of_run(fault, cause))
+            let _ = system.abandon(draft);
+            Err(GetFault { fault, cause: None })
         }
     }
 }
@@ -168,9 +177,10 @@ fn fetch<S: FileSystem, N: TransferWire>(
 ///
 /// # Errors
 ///
-/// `Socket` if no port was opened, and `Transfer` with the cause of the failed transfer: then no file is changed. `Write`
-/// if the file cannot be written, which then stays as it is unless it had to be written in place, or the writer fails.
-/// `Memory` if an allocation was refused.
+/// `Socket` if no port was opened, `Transfer` with the cause of the failed transfer, and `Unreadable` with index 0 and the
+/// fault of what was fetched, `BadRuleset` with its code if it is a file of the other ruleset: then no file is changed.
+/// `Write` if the file cannot be written, which then stays as it is, or the writer fails. `Memory` if an allocation was
+/// refused.
 pub fn get_file<S: FileSystem, N: TransferWire, W: Write>(
     system: &mut S,
     wire: &mut N,
@@ -231,6 +241,6 @@ pub fn run<S: FileSystem + Resolver, N: TransferWire, W: Write, E: Write>(
     );
     match done {
         Ok(()) => DONE,
-        Err(fault) => report_get(fault, arguments.file.as_str(), wire, errors),
+        Err(fault) => report_get(fault, arguments, wire, errors),
     }
 }

@@ -15,6 +15,7 @@ mod line;
 mod network;
 mod policies;
 pub mod put;
+mod received;
 mod reporting;
 mod resolver;
 mod run_fault;

@@ -6,14 +6,11 @@ ghost use Rattle.clap.specs.Matches.{found_of};
 ghost use Rattle.clap.specs.Words.{app_of, rows_of};
 ghost use Rattle.clap.specs.declared.builder.command.Command.TheViews.{out-Command};
 ghost use Rattle.archive_runs.specs.Rounds.{PutsInRounds};
-ghost use Rattle.tws_file.specs.Text.{IsReadable};
-ghost use Rattle.tws_file.specs.Fault.{HasFileFault};
 ghost use Rattle.tftp_ends.specs.declared.limits.TheConstants.{MAX_FILE};
 ghost use Rattle.archive_commands.specs.declared.limits.TheConstants.{ROUNDS};
 ghost use Rattle.command_line.specs.declared.limits.TheConstants.{INPUT_PIECE};
 ghost use Rattle.command_line.specs.Arguments.{Answers};
-ghost use Rattle.archive_commands.specs.Put.{AsksToPut, InputFails, IsWholeInput, PutFails, PutRan, PutRuns, Puts, ReadsAtMost, WholeFails, put_app};
-ghost use Rattle.command_line.specs.Faults.{IsReadOut};
+ghost use Rattle.archive_commands.specs.Put.{AsksToPut, IsReadUp, IsWholeInput, PutFails, PutRan, PutRuns, Puts, ReadsAtMost, WholeFails, put_app};
 ghost use Rattle.archive_commands.specs.Faults.{run_fault};
 ghost use Rattle.archive_commands.specs.Lines.{Unless};
 
@@ -36,7 +33,6 @@ use std::slice;
 use system_files::FileSystem;
 use tftp_ends::MAX_FILE;
 use tftp_packet::Endpoint;
-use tws_reader::read_file;
 
 /// What `put` is asked for.
 #[derive(Drop)]
@@ -79,30 +75,23 @@ pub fn asked(alloc: Global, words: &ArgMatches) -> Result<Option<PutArguments>, 
     Ok(Some(PutArguments { source, target }))
 }
 
-// Reads all bytes of an input. One that is longer than a file may be is left once it is known to be.
-fn read_bytes<R: Read>(alloc: Global, input: &mut R) -> Result<Vec<u8>, ToolFault>
-    ensures bytes { IfOk result (λ bytes. IfSome (R.remaining input.old) (λ xs. bytes.items ≡ xs)) }
-    ensures short { IfOk result (λ bytes. length bytes.items ≤ MAX_FILE) }
-    ensures end { OnOk result (IsAtEnd (R.remaining input.new)) }
-    ensures fault { IfErr result (InputFails (R.remaining input.old)) }
-    ensures most { ReadsAtMost (MAX_FILE + INPUT_PIECE) (R.remaining input.old) (R.remaining input.new) }
-{
-    let mut sink = FileBytes::new(alloc);
-    read_to_end(input, &mut sink)?;
-    Ok(sink.bytes)
-}
-
-// Reads all bytes of an input, which must be the text of a solution file.
+// Reads all bytes of an input, which must be the text of a solution file. One is left as soon as it is known to be none, or
+// longer than a file may be.
 fn read_whole<R: Read>(alloc: Global, input: &mut R) -> Result<Vec<u8>, ToolFault>
     ensures whole { IfOk result (λ bytes. IsWholeInput (R.remaining input.old) bytes.items) }
     ensures end { OnOk result (IsAtEnd (R.remaining input.new)) }
-    ensures unreadable { IfErr result (IsReadOut (R.remaining input.new)) }
+    ensures unreadable { IfErr result (IsReadUp (R.remaining input.old) (R.remaining input.new)) }
     ensures fault { IfErr result (WholeFails (R.remaining input.old)) }
     ensures most { ReadsAtMost (MAX_FILE + INPUT_PIECE) (R.remaining input.old) (R.remaining input.new) }
 {
-    let bytes = read_bytes(alloc, input)?;
-    match read_file(alloc, &bytes) {
-        Ok(_) => Ok(bytes),
+    let mut sink = FileBytes::new(alloc);
+    match read_to_end(input, &mut sink) {
+        Ok(()) => {}
+        Err(fault) => return Err(fault),
+    }
+    let FileBytes { bytes, reader } = sink;
+    match reader.finish() {
+        Ok(()) => Ok(bytes),
         Err(fault) => Err(ToolFault::of_input(0, fault)),
     }
 }
@@ -126,9 +115,9 @@ fn put_shown<N: TransferWire>(
 ///
 /// # Errors
 ///
-/// `Read` if the reader fails or does not end within `INPUT_READS` reads, `Transfer(TooLong)` if the input has more than
-/// `MAX_FILE` bytes, of which at most 65,536 beyond these are read, and `Unreadable` with index 0 and the fault of the
-/// bytes: then nothing is sent. `Socket` if no port was opened, and `Transfer` with the cause of the failed transfer.
+/// `Read` if the reader fails or does not end within `INPUT_READS` reads; `Unreadable` with index 0 and the fault of the
+/// bytes, of which no more are read once no further ones can cure it; `Transfer(TooLong)` if more than `MAX_FILE` bytes have
+/// no such fault, of which at most 65,536 beyond these are read: then nothing is sent. `Socket` if no port was opened, and `Transfer` with the cause of the failed transfer.
 /// `Write` if the writer fails, after the file was sent. `Memory` if an allocation was refused.
 pub fn put_file<R: Read, N: TransferWire, W: Write>(
     alloc: Global,
@@ -138,7 +127,7 @@ pub fn put_file<R: Read, N: TransferWire, W: Write>(
     out: &mut W,
 ) -> Result<(), ToolFault>
     ensures end { OnOk result (IsAtEnd (R.remaining input.new)) }
-    ensures unreadable { IfErr result (IsReadOut (R.remaining input.new)) }
+    ensures unreadable { IfErr result (IsReadUp (R.remaining input.old) (R.remaining input.new)) }
     ensures most { ReadsAtMost (MAX_FILE + INPUT_PIECE) (R.remaining input.old) (R.remaining input.new) }
     ensures sent { OnOk result (Puts (R.remaining input.old) server (N.calls wire.old) (N.calls wire.new) (W.contents out.old) (W.contents out.new)) }
     ensures fails { IfErr result (PutFails (R.remaining input.old) server (N.calls wire.old) (N.calls wire.new) (W.contents out.old) (W.contents out.new)) }

@@ -9,6 +9,8 @@ use archive_client::Cause;
 use byte_output::Printable;
 use command_line::{DONE, ToolFault, USAGE, report, report_cause};
 use std::io::Write;
+use std::slice;
+use tws_file::{FileFault, Ruleset};
 
 // What helps with an address that cannot be used: a port after a colon is the first that many try.
 fn hint_of(address: &str) -> &'static str
@@ -89,6 +91,40 @@ pub(crate) fn report_transfer<N: TransferWire, E: Write>(
     let status = report(fault, names, errors);
     report_more(fault, wire, errors);
     status
+}
+
+// Reports that the server at this address sent a file of the other ruleset, and returns the status.
+fn report_other<E: Write>(fault: ToolFault, code: u8, address: &str, errors: &mut E) -> u8
+    ensures { result ≡ status_of fault }
+{
+    let _ = writeln!(errors, "tws: {address}: unreadable: BadRuleset({code})");
+    let _ = writeln!(
+        errors,
+        "tws: {address}: byte 4 is {code}, the code of the other ruleset"
+    );
+    fault.status()
+}
+
+/// Reports why no collection was fetched over this wire from the server at this address, and returns the status. What was
+/// sent is at fault if it is `Unreadable`.
+pub(crate) fn report_received<N: TransferWire, E: Write>(
+    fault: ToolFault,
+    address: &String,
+    wire: &N,
+    errors: &mut E,
+) -> u8
+    ensures { result ≡ status_of fault }
+{
+    if let ToolFault::Unreadable {
+        fault: FileFault::BadRuleset(code),
+        ..
+    } = fault
+    {
+        if Ruleset::from_code(code).is_some() {
+            return report_other(fault, code, address.as_str(), errors);
+        }
+    }
+    report_transfer(fault, wire, slice::from_ref(address), errors)
 }
 
 /// Like `report_transfer`, but reports nothing if the transfer succeeded.

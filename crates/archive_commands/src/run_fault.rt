@@ -13,7 +13,7 @@ pub(crate) fn of_run(fault: RunFault) -> ToolFault
     match fault {
         RunFault::Socket => ToolFault::Socket,
         RunFault::Transfer(why) => ToolFault::Transfer(why),
-        RunFault::Memory => ToolFault::Memory,
-        RunFault::Write => ToolFault::Write,
+        // A put writes nothing, and a get into memory, where a write fails only if that runs out.
+        RunFault::Memory | RunFault::Write => ToolFault::Memory,
     }
 }

@@ -24,17 +24,19 @@ fn put_of<R: io::Read>(
 // The most bytes of a file that can be sent.
 const MOST: u32 = 33_553_919;
 
-// What a put of so many zeros comes to, and how many of them it has not read.
+// What a put of so many zeros after these bytes comes to, and how many of the zeros it has not read.
 fn put_of_zeros(
     rt: &HostRuntime,
+    first: &[u8],
     count: u32,
 ) -> Result<((Result<(), ToolFault>, usize, usize), u32), Fail> {
-    let mut input = Drops { left: count };
+    let mut input = first.chain(Drops { left: count });
     let put = put_of(rt, &mut input)?;
-    Ok((put, input.left))
+    Ok((put, input.get_ref().1.left))
 }
 
-// An input that does not end is left at the first byte that is too many; the longest is read to its end.
+// An input that does not end is left at the byte that makes it unreadable, or at the first one that is too many: zeros
+// after a header are pads.
 #[test]
 fn a_put_of_zeros(rt: HostRuntime) -> Result<(), Fail> {
     let too_long = ToolFault::Transfer(Cause::TooLong);
@@ -42,11 +44,12 @@ fn a_put_of_zeros(rt: HostRuntime) -> Result<(), Fail> {
         index: 0,
         fault: FileFault::BadSignature,
     };
-    for (count, fault, left) in [
-        (u32::MAX, too_long, u32::MAX - MOST - 1),
-        (MOST, unreadable, 0),
-    ] {
-        assert_eq!(rt; put_of_zeros(&rt, count)?, ((Err(fault), 0, 0), left));
+    let header = &HUNDRED.as_slice()[..8];
+    for (first, fault, read) in [(&header[..0], unreadable, 8), (header, too_long, MOST - 7)] {
+        assert_eq!(rt;
+            put_of_zeros(&rt, first, u32::MAX)?,
+            ((Err(fault), 0, 0), u32::MAX - read)
+        );
     }
     Ok(())
 }

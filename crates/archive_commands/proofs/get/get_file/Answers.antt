@@ -11,4 +11,4 @@ returns-in-Ok-fetch-clause-fails g c =
     inr (inr (get_ended _ _ _ _ _ _ _ _ _ _ _ _ _ _ _ c.in-Ok.ensures.begun c.in-Ok.ensures.kept c.in-Ok-fetch.ensures.fetched c.in-Err-said.ensures.fails c.dally.ensures))
 
 pub returns-clause-fails : goal.returns-clause-fails
-returns-clause-fails g c = inr (inl (fetch_fails _ _ _ _ _ _ _ _ _ _ c.in-Ok.ensures.begun c.in-Ok.ensures.kept c.in-Err-fetch.ensures.fails, refl))
+returns-clause-fails g c = inr (inl (fetch_fails _ _ _ _ _ _ _ _ c.in-Ok.ensures.kept c.in-Err-fetch.ensures.fails, refl))
