@@ -379,13 +379,13 @@ def is_runnable(steps):
 
 
 class Shell:
-    """A shell in a folder of its own, with the built programs (so that no launcher proves them first), the examples and
+    """A shell in a folder of its own, with the built programs (so that no launcher proves them first), the examples, `contrib` and
     these scripts."""
 
     def __init__(self, folder):
         for name in PROGRAMS:
             os.symlink(built(name).resolve(), Path(folder, name))
-        for name in ("examples", "system_tests"):
+        for name in ("contrib", "examples", "system_tests"):
             os.symlink(Path(name).resolve(), Path(folder, name))
         self.process = subprocess.Popen(
             ["bash", "--norc"], cwd=folder, text=True, bufsize=1, start_new_session=True,
