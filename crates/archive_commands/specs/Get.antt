@@ -95,7 +95,7 @@ pub record FetchesOther (server : Endpoint) (rules : Ruleset) (fault : FileFault
   pub runs : GetRuns server rules (Ok got) bytes before after
   pub is_not : IsNotOf rules bytes fault
 
--- a run with this result may have ended for want of memory
+-- a run with this result may have ended because memory ran out
 abbrev pub MayBeShort : Result (ℕ × Run) RunFault → Type 0
 MayBeShort (Ok got) = Unit {0}
 MayBeShort (Err run.Socket) = ⊥
