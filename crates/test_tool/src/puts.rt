@@ -3,7 +3,7 @@
 // Puts of inputs that fail, or do not end.
 use crate::streams::*;
 use archive_memory::MemoryWire;
-use std::io;
+use std::io::{self, Read};
 use std::test::Fail;
 use test_samples::{ALICE, HUNDRED, SERVER};
 use tftp_packet::Cause;
@@ -11,7 +11,7 @@ use tws_file::FileFault;
 use tws_tool::{ToolFault, put_file};
 
 // The result of a put of this input, how many calls of its wire it makes, and how many bytes it prints.
-fn put_of<R: io::Read>(
+fn put_of<R: Read>(
     rt: &HostRuntime,
     input: &mut R,
 ) -> Result<(Result<(), ToolFault>, usize, usize), Fail> {
