@@ -18,7 +18,7 @@ use Rattle.archive_theorem.proofs.Keeper_Folders.{loaded-over}
 use Rattle.archive_theorem.proofs.Keeper_Loads.{fails-outside}
 use Rattle.archive_world.specs.Inside.{first_taken}
 use Rattle.archive_world.specs.Outcomes.{Outcome}
-use Rattle.archive_world.specs.Replays.{BeginsFrom, HasRun}
+use Rattle.archive_world.specs.Replays.{BeginsFrom, HasRunFrom}
 use Rattle.archive_world.specs.Exits.{BeginsAt}
 
 -- ---- a keeper that was made with two texts
@@ -151,14 +151,14 @@ module _ (o : Origin) (begins : BeginsFrom (Some []) o) where
       ∙ ap (λ c. make server_endpoint empty_maps.lynx c o.texts) ms_nothing
       ∙ ap (make server_endpoint empty_maps.lynx empty_maps.ms) no_texts
 
--- the headline holds for what has happened
-pub nothing-headline : (events : List Event) (now : Option (List Keeping)) (outcome : Outcome) (r : HasRun events (Some []) now outcome) → Headline r.world
-nothing-headline events now outcome r =
-    let h = r.happened in
-    let first = from-nothing h.origin h.begins in
-    let is : r.world ≡ model.run h.steps = h.is ∙ ap (model.run_from h.steps) first in
-    subst Headline (sym is)
-    (run-headline server_endpoint (record { steps = h.steps; merged = subst (AllMerged h.steps) first h.merged }) (subst HasOwnPorts is h.own))
+  -- and the headline holds for what has happened
+  pub nothing-headline : (events : List Event) (now : Option (List Keeping)) (outcome : Outcome)
+      (r : HasRunFrom o events (Some []) now outcome) → Headline r.world
+  nothing-headline events now outcome r =
+      let h = r.happened in
+      let is : r.world ≡ model.run h.steps = h.is ∙ ap (model.run_from h.steps) from-nothing in
+      subst Headline (sym is)
+      (run-headline server_endpoint (record { steps = h.steps; merged = subst (AllMerged h.steps) from-nothing h.merged }) (subst HasOwnPorts is h.own))
 
 -- its load fails only by a fault of its own or out of memory
 pub nothing-fails : FailsOutside []

@@ -1,5 +1,5 @@
 -- What the functions inside a replay guarantee, by their results.
-use Rattle.std.specs.Prelude.{◌≡◌, ◌≢◌, ◌⊎◌, ℕ, true, List, Option, Some, Result, Ok, Err}
+use Rattle.std.specs.Prelude.{◌≡◌, ◌≢◌, ◌⊎◌, ℕ, true, List, Contains, Option, Some, Result, Ok, Err}
 use Rattle.archive_table.specs.Table.{all}
 use Rattle.archive_table.specs.Keeper.{Keeping}
 use Rattle.archive_world.specs.declared.event_fault.EventFault.{EventFault}
@@ -10,11 +10,17 @@ use Rattle.archive_model.specs.World.{Event, begin, deliver, client_times_out, s
 use Rattle.archive_theorem.specs.Headline.{HasOwnPorts}
 use Rattle.archive_model.specs.Restarts.{LoadsAs}
 use Rattle.archive_theorem.proofs.Claim_Invariant.{AreBest}
-use Rattle.archive_world.specs.Replays.{BeginsFrom, HasHappened, IsDue, Makes, Reuses, starts_again, IsBadAt, IsReusedAt, IsNotKeptAt, IsNotLoadedAt, HasStopped}
+use Rattle.archive_world.specs.Outcomes.{Outcome}
+use Rattle.archive_world.specs.Replays.{FromLoad, HasHappened, IsDue, Makes, Reuses, starts_again, HasRunFrom, FailsBy}
 
--- the world at which a replay begins
+-- the world at which a replay begins with what its keeper loads
 abbrev pub BeginsAt : (reported : Option (List Keeping)) → World → Type 0
-BeginsAt reported w = (o : Origin) × BeginsFrom reported o × (w ≡ first_world o)
+BeginsAt reported w = FromLoad reported (λ o. w ≡ first_world o)
+
+-- if the server starts again, what the keeper has is loaded as these collections
+abbrev pub LoadsAgain : Origin → (reported : Option (List Keeping)) → List Event → Type 0
+LoadsAgain o reported events = (e : Event) → Contains events e → starts_again e ≡ true →
+    (log : List Keeping) × (reported ≡ Some log) × LoadsAs log o.maps
 
 -- the keeper has a log, and what it has is loaded as what the server has
 pub record KeeperHas (reported : Option (List Keeping)) (w : World) : Type 0 where
@@ -61,11 +67,15 @@ world_fault_of NotLoaded index = world.NotLoaded index
 world_fault_of Memory index = world.Memory
 
 -- by the result of a call for a list of events
-abbrev pub ReplayEnds : Result (Unit {0}) WorldFault → List Event → (reported now : Option (List Keeping)) → (v : World) → Type 0
-ReplayEnds (Ok done) events reported now v = HasHappened events reported now v
-ReplayEnds (Err (world.BadEvent i)) events reported now v = IsBadAt events reported now i
-ReplayEnds (Err (world.PortReused i)) events reported now v = IsReusedAt events reported now i
-ReplayEnds (Err (world.NotKept i)) events reported now v = IsNotKeptAt events reported now i
-ReplayEnds (Err (world.NotLoaded i)) events reported now v = IsNotLoadedAt events reported now i
-ReplayEnds (Err (world.NotStarted fault)) events reported now v = ⊥
-ReplayEnds (Err world.Memory) events reported now v = HasStopped events reported now
+abbrev pub HappenedOr : Origin → Result (Unit {0}) WorldFault → List Event → (reported now : Option (List Keeping)) → (v : World) → Type 0
+HappenedOr o (Ok done) events reported now v = HasHappened o events reported now v
+HappenedOr o (Err fault) events reported now v = FailsBy o fault events reported now
+
+-- and by that of a whole replay
+abbrev pub ReplayEnds : Origin → Result Outcome WorldFault → List Event → (reported now : Option (List Keeping)) → Type 0
+ReplayEnds o (Ok outcome) events reported now = HasRunFrom o events reported now outcome
+ReplayEnds o (Err fault) events reported now = FailsBy o fault events reported now
+
+-- so much is said of each run that begins at this world, if the keeper's log is loaded as what the server has there
+abbrev pub FromWorld : (first : World) → (reported : Option (List Keeping)) → List Event → (Origin → Type 0) → Type 0
+FromWorld first reported events Holds = (o : Origin) → first ≡ first_world o → LoadsAgain o reported events → Holds o

@@ -4,9 +4,11 @@ use Rattle.tftp_packet.specs.declared.endpoint.Endpoint.{Endpoint}
 use Rattle.tws_file.specs.declared.«ruleset».Ruleset.TheVariants.{Lynx, Ms}
 use Rattle.archive_table.specs.Table.{Grant, all, unkept, Maps, Taken, IsMerged}
 use Rattle.archive_table.specs.Keeper.{Keeping, Loads, IsLoaded, KeepsMaps}
-use Rattle.archive_model.specs.World.{Event, begin, deliver, client_times_out, server_times_out, stray, restart, unknown_keep, WorldStep, World, Origin, server_endpoint, first_world, event_happens, happens, run_from, wanted_by, HasMerged, AllMerged, MayHappen, AllMayHappen}
-use Rattle.archive_theorem.specs.Headline.{HasOwnPorts, HasOperation, ClientHeadline, ClientsHeadline}
+use Rattle.archive_model.specs.World.{Event, begin, deliver, client_times_out, server_times_out, stray, restart, unknown_keep, WorldStep, World, Origin, empty_origin, server_endpoint, first_world, event_happens, happens, run_from, wanted_by, HasMerged, AllMerged, MayHappen, AllMayHappen}
+use Rattle.archive_theorem.specs.Headline.{HasOwnPorts, HasOperation, Headline, ClientHeadline, ClientsHeadline}
 use Rattle.archive_model.specs.Restarts.{EventKeeps, text_list}
+use Rattle.archive_world.specs.declared.world_fault.WorldFault.{WorldFault}
+use Rattle.archive_world.specs.declared.world_fault.WorldFault.TheVariants as world
 use Rattle.archive_world.specs.Outcomes.{Outcome, outcome_of}
 
 -- Of the lists that a start loads as the same collections, the keeper has this one: a restart does not change its list, and a
@@ -52,8 +54,12 @@ abbrev pub AllDue : List WorldStep → World → Type 0
 AllDue [] w = Unit {0}
 AllDue (s ∷ steps) w = IsDue s.event s.grant w × AllDue steps (happens s w)
 
--- How a replay begins: the server has the collections that are loaded from its keeper's texts, which are the first files
--- taken. If the keeper has a log, they are those that it kept last.
+-- nothing was sent, and the server has nothing
+abbrev pub nothing : Origin
+nothing = empty_origin server_endpoint
+
+-- The server has the collections that are loaded from its keeper's texts, which are the first files taken. If the keeper has a
+-- log, they are those that it kept last.
 pub record BeginsFrom (reported : Option (List Keeping)) (o : Origin) : Type 0 where
   pub lynx : Option (List ℕ)
   pub ms : Option (List ℕ)
@@ -64,20 +70,18 @@ pub record BeginsFrom (reported : Option (List Keeping)) (o : Origin) : Type 0 w
   pub lynx_is : IsLoaded Lynx lynx o.maps.lynx
   pub ms_is : IsLoaded Ms ms o.maps.ms
 
--- From such a beginning, these events have led to this world. Each was allowed to happen, and no port is reused. A keeper
+-- From these collections, these events have led to this world. Each was allowed to happen, and no port is reused. A keeper
 -- that had a log still has it, and in it what the steps have kept.
-pub record HasHappened (events : List Event) (reported now : Option (List Keeping)) (w : World) : Type 0 where
-  pub origin : Origin
-  pub begins : BeginsFrom reported origin
+pub record HasHappened (o : Origin) (events : List Event) (reported now : Option (List Keeping)) (w : World) : Type 0 where
   pub steps : List WorldStep
   pub events_are : map (λ (s : WorldStep). s.event) steps ≡ events
-  pub is : w ≡ run_from steps (first_world origin)
-  pub may : AllMayHappen steps (first_world origin)
+  pub is : w ≡ run_from steps (first_world o)
+  pub may : AllMayHappen steps (first_world o)
   pub own : HasOwnPorts w
-  pub merged : AllMerged steps (first_world origin)
-  pub due : AllDue steps (first_world origin)
+  pub merged : AllMerged steps (first_world o)
+  pub due : AllDue steps (first_world o)
   pub keeps : (before : List Keeping) → reported ≡ Some before →
-      (log : List Keeping) × (now ≡ Some log) × HaveKept steps (first_world origin) before log
+      (log : List Keeping) × (now ≡ Some log) × HaveKept steps (first_world o) before log
 
 -- what one event does to a world and to a keeper's list, if it may happen and reuses no port
 pub record Makes (e : Event) (reported now : Option (List Keeping)) (w v : World) : Type 0 where
@@ -102,25 +106,36 @@ starts_again (stray d) = false
 starts_again restart = true
 starts_again (unknown_keep index found) = true
 
--- If the server starts again, the keeper has a log. Otherwise any keeper will do.
+-- If the server starts again, the keeper has a log, which is empty at first. Otherwise any keeper will do.
 abbrev pub IsReady : (reported : Option (List Keeping)) → List Event → Type 0
-IsReady reported events = (e : Event) → Contains events e → starts_again e ≡ true → (log : List Keeping) × (reported ≡ Some log)
+IsReady reported events = (e : Event) → Contains events e → starts_again e ≡ true → reported ≡ Some []
 
--- All events have happened, the outcome is that of the world after them, and the headline holds for it and each client.
+-- If the server starts again, the keeper has a log.
+abbrev pub HasLog : (reported : Option (List Keeping)) → List Event → Type 0
+HasLog reported events = (e : Event) → Contains events e → starts_again e ≡ true → (log : List Keeping) × (reported ≡ Some log)
+
+-- All events have happened, the outcome is that of the world after them, and the headline holds for it.
 pub record HasRun (events : List Event) (reported now : Option (List Keeping)) (outcome : Outcome) : Type 0 where
   pub world : World
-  pub happened : HasHappened events reported now world
+  pub happened : HasHappened nothing events reported now world
   pub is : outcome ≡ outcome_of world
-  pub headline : ClientsHeadline happened.origin world
+  pub headline : Headline world
+
+-- The same from these collections, with the headline for each client.
+pub record HasRunFrom (o : Origin) (events : List Event) (reported now : Option (List Keeping)) (outcome : Outcome) : Type 0 where
+  pub world : World
+  pub happened : HasHappened o events reported now world
+  pub is : outcome ≡ outcome_of world
+  pub headline : ClientsHeadline o world
   pub clients : (e : Endpoint) → HasOperation world.begun e → ClientHeadline world.past e
 
 -- The events before this place have happened, and the one there may not happen after them, or is a keep with an unknown outcome
 -- of a file that changes no collection.
-pub record IsBadAt (events : List Event) (reported now : Option (List Keeping)) (i : ℕ) : Type 0 where
+pub record IsBadAt (o : Origin) (events : List Event) (reported now : Option (List Keeping)) (i : ℕ) : Type 0 where
   pub event : Event
   pub there : slice_get events i ≡ Some event
   pub world : World
-  pub happened : HasHappened (take i events) reported now world
+  pub happened : HasHappened o (take i events) reported now world
   pub bad : MayHappen event world → IsDue event all world → ⊥
 
 -- The event may happen, but after it, with what it was granted, a port would have been used twice.
@@ -132,20 +147,20 @@ pub record Reuses (e : Event) (w : World) : Type 0 where
   pub reused : HasOwnPorts (event_happens e grant maps w) → ⊥
 
 -- The events before this place have happened, and the one there reuses a port.
-pub record IsReusedAt (events : List Event) (reported now : Option (List Keeping)) (i : ℕ) : Type 0 where
+pub record IsReusedAt (o : Origin) (events : List Event) (reported now : Option (List Keeping)) (i : ℕ) : Type 0 where
   pub event : Event
   pub there : slice_get events i ≡ Some event
   pub world : World
-  pub happened : HasHappened (take i events) reported now world
+  pub happened : HasHappened o (take i events) reported now world
   pub reuses : Reuses event world
 
 -- The events before this place have happened, and the one there is a keep that the next start is to find. Instead its
 -- datagram was delivered, and the keeper did not keep the collection.
-pub record IsNotKeptAt (events : List Event) (reported now : Option (List Keeping)) (i : ℕ) : Type 0 where
+pub record IsNotKeptAt (o : Origin) (events : List Event) (reported now : Option (List Keeping)) (i : ℕ) : Type 0 where
   pub index : ℕ
   pub there : slice_get events i ≡ Some (unknown_keep index true)
   pub world : World
-  pub happened : HasHappened (take i events ++ deliver index 0 ∷ []) reported now world
+  pub happened : HasHappened o (take i events ++ deliver index 0 ∷ []) reported now world
 
 -- How many events the keeper's list reflects if the server cannot load at this one: a keep comes before the start.
 abbrev pub IsReflected : Event → (i count : ℕ) → Type 0
@@ -158,17 +173,29 @@ IsReflected restart i count = count ≡ i
 IsReflected (unknown_keep index found) i count = count ≡ i + 1
 
 -- The events before this place have happened, and at the one there the server starts again.
-pub record IsNotLoadedAt (events : List Event) (reported now : Option (List Keeping)) (i : ℕ) : Type 0 where
+pub record IsNotLoadedAt (o : Origin) (events : List Event) (reported now : Option (List Keeping)) (i : ℕ) : Type 0 where
   pub event : Event
   pub there : slice_get events i ≡ Some event
   pub count : ℕ
   pub reflected : IsReflected event i count
   pub world : World
-  pub happened : HasHappened (take count events) reported now world
+  pub happened : HasHappened o (take count events) reported now world
 
 -- The first `count` events have happened, and the keeper has what they have kept.
-pub record HasStopped (events : List Event) (reported now : Option (List Keeping)) : Type 0 where
+pub record HasStopped (o : Origin) (events : List Event) (reported now : Option (List Keeping)) : Type 0 where
   pub count : ℕ
   pub within : count ≤ length events
   pub world : World
-  pub happened : HasHappened (take count events) reported now world
+  pub happened : HasHappened o (take count events) reported now world
+
+-- these events, from these collections, have no run, by this fault
+abbrev pub FailsBy : Origin → WorldFault → List Event → (reported now : Option (List Keeping)) → Type 0
+FailsBy o (world.BadEvent i) events reported now = IsBadAt o events reported now i
+FailsBy o (world.PortReused i) events reported now = IsReusedAt o events reported now i
+FailsBy o (world.NotKept i) events reported now = IsNotKeptAt o events reported now i
+FailsBy o (world.NotLoaded i) events reported now = IsNotLoadedAt o events reported now i
+FailsBy o world.Memory events reported now = HasStopped o events reported now
+
+-- so much is said of a run that begins with what a keeper with this list loads
+abbrev pub FromLoad : (reported : Option (List Keeping)) → (Origin → Type 0) → Type 0
+FromLoad reported Holds = (o : Origin) × BeginsFrom reported o × Holds o

@@ -6,12 +6,13 @@ ghost use Rattle.archive_model.specs.World.{Event, Origin, first_world, start};
 ghost use Rattle.archive_model.specs.Restarts.{FailsOutside};
 ghost use Rattle.archive_theorem.specs.Headline.{Headline};
 ghost use Rattle.archive_world.specs.Outcomes.{Outcome};
-ghost use Rattle.archive_world.specs.Replays.{BeginsFrom, HasRun};
+ghost use Rattle.archive_world.specs.Replays.{BeginsFrom, HasRunFrom};
 
-/// With a keeper that has nothing a replay begins with nothing, so all that `replay` promises is about runs from `start`, and
-/// the whole headline holds for its outcome. Its start fails only by a fault of the keeper or out of memory.
+/// With a keeper that has nothing `replay_from` begins with nothing: its runs are runs from `start`, and the whole headline
+/// holds for its outcome. Its start fails only by a fault of the keeper or out of memory.
 pub fn empty_keeper()
     ensures start { (o : Origin) → BeginsFrom (Some []) o → first_world o ≡ start }
-    ensures headline { (events : List Event) (now : Option (List Keeping)) (outcome : Outcome) (r : HasRun events (Some []) now outcome) → Headline r.world }
+    ensures headline { (o : Origin) → BeginsFrom (Some []) o → (events : List Event) (now : Option (List Keeping)) (outcome : Outcome)
+        (r : HasRunFrom o events (Some []) now outcome) → Headline r.world }
     ensures fails { FailsOutside [] }
 {}

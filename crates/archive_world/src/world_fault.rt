@@ -1,14 +1,10 @@
 //! Why a list of events has no run.
 
-use archive_table::LoadFault;
 use thiserror::Error;
 
 /// Why a list of events has no run. Events are counted from 0.
 #[derive(Clone, Copy, Debug, PartialEq, Eq, Error)]
 pub enum WorldFault {
-    /// The server cannot load what its keeper has at first.
-    #[error("NotStarted({0})")]
-    NotStarted(LoadFault),
     /// This event is not allowed at its place, or is a keep with an unknown outcome of a file that changes no collection.
     #[error("BadEvent({0})")]
     BadEvent(usize),

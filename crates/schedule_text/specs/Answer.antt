@@ -5,13 +5,13 @@ use Rattle.hex.specs.Hex.{encode_lower}
 use Rattle.tftp_packet.specs.declared.endpoint.Endpoint.{Endpoint}
 use Rattle.tws_file.specs.Words.{ruleset_name}
 use Rattle.archive_table.specs.Table.{Taken}
-use Rattle.archive_table.specs.Keeper.{Keeping, TableFails}
+use Rattle.archive_table.specs.Keeper.{Keeping}
 use Rattle.archive_model.specs.World.{Event, Datagram, Asked, to_write, to_read, Opening, Got}
 use Rattle.archive_world.specs.Outcomes.{Outcome}
 use Rattle.archive_world.specs.declared.world_fault.WorldFault.{WorldFault}
-use Rattle.archive_world.specs.declared.world_fault.WorldFault.TheVariants.{NotStarted, BadEvent, PortReused, NotKept, NotLoaded, Memory}
+use Rattle.archive_world.specs.declared.world_fault.WorldFault.TheVariants.{BadEvent, PortReused, NotKept, NotLoaded, Memory}
 use Rattle.schedule_text.specs.Schedule.{schedule_of}
-use Rattle.archive_world.specs.Replays.{HasRun, IsBadAt, IsReusedAt, IsNotKeptAt, IsNotLoadedAt, HasStopped}
+use Rattle.archive_world.specs.Replays.{HasRun, FailsBy, nothing}
 
 -- ---- lines
 
@@ -60,28 +60,18 @@ outcome_text o =
     ++ flat_map opened_line o.opened ++ text_line (codes "lynx") o.lynx ++ text_line (codes "ms") o.ms ++ flat_map datagram_line o.datagrams
 
 abbrev pub fault_text : WorldFault → List ℕ
-fault_text (NotStarted fault) = codes "not started" ++ 10 ∷ []
 fault_text (BadEvent index) = codes "bad event " ++ decimal index ++ 10 ∷ []
 fault_text (PortReused index) = codes "port reused " ++ decimal index ++ 10 ∷ []
 fault_text (NotKept index) = codes "not kept " ++ decimal index ++ 10 ∷ []
 fault_text (NotLoaded index) = codes "not loaded " ++ decimal index ++ 10 ∷ []
 fault_text Memory = codes "out of memory" ++ 10 ∷ []
 
--- these events, over a keeper that had nothing and now has `now`, are at fault in this way
-abbrev pub IsAtFault : List Event → (now : Option (List Keeping)) → WorldFault → Type 0
-IsAtFault events now (NotStarted fault) = TableFails (Some []) fault × (now ≡ Some [])
-IsAtFault events now (BadEvent index) = IsBadAt events (Some []) now index
-IsAtFault events now (PortReused index) = IsReusedAt events (Some []) now index
-IsAtFault events now (NotKept index) = IsNotKeptAt events (Some []) now index
-IsAtFault events now (NotLoaded index) = IsNotLoadedAt events (Some []) now index
-IsAtFault events now Memory = HasStopped events (Some []) now
-
--- the text is that of the outcome of these events, or that of the first fault
+-- Over a keeper that had nothing, the text is that of the outcome of these events, or that of the first fault.
 abbrev pub Answers : List Event → (text : List ℕ) → Type 0
 Answers events text =
     (now : Option (List Keeping))
     × (((outcome : Outcome) × HasRun events (Some []) now outcome × (text ≡ outcome_text outcome))
-    ⊎ ((fault : WorldFault) × IsAtFault events now fault × (text ≡ fault_text fault)))
+    ⊎ ((fault : WorldFault) × FailsBy nothing fault events (Some []) now × (text ≡ fault_text fault)))
 
 -- these lines answer the events of this text
 abbrev pub IsAnswer : (text lines : List ℕ) → Type 0

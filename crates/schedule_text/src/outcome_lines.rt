@@ -159,7 +159,6 @@ pub(crate) fn fault_line(alloc: Global, fault: WorldFault) -> Result<String, All
 {
     let mut text = String::new(alloc);
     match fault {
-        WorldFault::NotStarted(_) => writeln!(text, "not started")?,
         WorldFault::BadEvent(index) => writeln!(text, "bad event {index}")?,
         WorldFault::PortReused(index) => writeln!(text, "port reused {index}")?,
         WorldFault::NotKept(index) => writeln!(text, "not kept {index}")?,

@@ -22,6 +22,8 @@ mod replays;
 #[cfg(test)]
 mod requests;
 #[cfg(test)]
+mod starts;
+#[cfg(test)]
 mod table;
 #[cfg(test)]
 mod table_steps;

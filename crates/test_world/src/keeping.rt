@@ -1,12 +1,14 @@
 //! Runs in which a keep fails.
 
 // What the keeper of a replay is given, and keepers that fail.
-use crate::scene::{Act, FIRST, NO_CALL, NOTHING, Wanted, failing, other_after};
+use crate::scene::{Act, NO_CALL, NOTHING, Wanted, failing, fault_by, other_after};
+use archive_memory::MemoryKeeper;
 use archive_world::{SERVER, WorldFault};
+use std::alloc::Global;
 use std::test::Fail;
 use test_samples::{
-    ACK_0, ACK_1, ALICE, BOB, CAROL, DATA_HUNDRED, HUNDRED, NOT_KEPT, PEER, SECOND_PEER,
-    THIRD_PEER, WRQ,
+    ACK_0, ACK_1, ALICE, BOB, CAROL, DATA_HUNDRED, EMPTY_MS, HUNDRED, NOT_KEPT, PEER, SECOND_PEER,
+    THIRD_PEER, UNREADABLE, WRQ,
 };
 
 // The same file from three clients, one after another.
@@ -95,7 +97,7 @@ fn a_keep_that_fails(rt: HostRuntime) -> Result<(), Fail> {
         given: &[(HUNDRED, false), (HUNDRED, true)],
         ..NOTHING
     };
-    assert_eq!(rt; other_after(rt.alloc(), ACTS, FIRST, &WANTED)?, None);
+    assert_eq!(rt; other_after(rt.alloc(), ACTS, 1, &WANTED)?, None);
     Ok(())
 }
 
@@ -123,7 +125,7 @@ fn a_restart_after_a_keep_that_fails(rt: HostRuntime) -> Result<(), Fail> {
         ..NOTHING
     };
     assert_eq!(rt;
-        other_after(rt.alloc(), &PUT_AND_RESTART, FIRST, &WANTED)?,
+        other_after(rt.alloc(), &PUT_AND_RESTART, 1, &WANTED)?,
         None
     );
     Ok(())
@@ -132,10 +134,10 @@ fn a_restart_after_a_keep_that_fails(rt: HostRuntime) -> Result<(), Fail> {
 // A load fails: there is no run, and the keeper has what was kept before.
 #[test]
 fn a_restart_that_fails(rt: HostRuntime) -> Result<(), Fail> {
-    let empty = failing(rt.alloc(), FIRST, &[Act::Restart])?;
-    // After the keep the load of Lynx is the next call, and that of MS the one after it.
-    let lynx = failing(rt.alloc(), FIRST + 1, &PUT_AND_RESTART)?;
-    let ms = failing(rt.alloc(), FIRST + 2, &PUT_AND_RESTART)?;
+    let empty = failing(rt.alloc(), 1, &[Act::Restart])?;
+    // The load of Lynx is the second call, that of MS the third.
+    let lynx = failing(rt.alloc(), 2, &PUT_AND_RESTART)?;
+    let ms = failing(rt.alloc(), 3, &PUT_AND_RESTART)?;
     let not_loaded = Some(WorldFault::NotLoaded(4));
     assert_eq!(rt;
         (empty, lynx, ms),
@@ -145,6 +147,29 @@ fn a_restart_that_fails(rt: HostRuntime) -> Result<(), Fail> {
             (not_loaded, true)
         )
     );
+    Ok(())
+}
+
+// The fault of a put and then a restart, with a keeper that has this for Lynx.
+fn fault_with(alloc: Global, text: &[u8]) -> Result<Option<WorldFault>, Fail> {
+    let text = Vec::from_slice(alloc, text)?;
+    let mut keeper = MemoryKeeper::with(alloc, Some(text), None)?;
+    fault_by(
+        alloc,
+        &mut keeper,
+        &[Act::Put(ALICE, HUNDRED), Act::Restart],
+    )
+}
+
+// What a keeper has is not loaded if it is not a file of the ruleset.
+#[test]
+fn a_restart_with_bytes_that_are_no_collection(rt: HostRuntime) -> Result<(), Fail> {
+    for text in [UNREADABLE.as_slice(), EMPTY_MS.as_slice()] {
+        assert_eq!(rt;
+            fault_with(rt.alloc(), text)?,
+            Some(WorldFault::NotLoaded(1))
+        );
+    }
     Ok(())
 }
 

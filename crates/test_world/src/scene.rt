@@ -41,7 +41,7 @@ fn event_of(alloc: Global, act: Act<'_>) -> Result<Event, Fail> {
     })
 }
 
-fn events_of(alloc: Global, acts: &[Act<'_>]) -> Result<Vec<Event>, Fail> {
+pub(crate) fn events_of(alloc: Global, acts: &[Act<'_>]) -> Result<Vec<Event>, Fail> {
     let mut events = Vec::new(alloc);
     for act in acts {
         events.push(event_of(alloc, *act)?)?;
@@ -50,7 +50,7 @@ fn events_of(alloc: Global, acts: &[Act<'_>]) -> Result<Vec<Event>, Fail> {
 }
 
 // Why these events have no run with this keeper, if they have none.
-fn fault_by(
+pub(crate) fn fault_by(
     alloc: Global,
     keeper: &mut MemoryKeeper,
     acts: &[Act<'_>],
@@ -60,21 +60,6 @@ fn fault_by(
         Ok(_outcome) => Ok(None),
         Err(fault) => Ok(Some(fault)),
     }
-}
-
-// A keeper that has this text for Lynx.
-fn keeper_with(alloc: Global, text: &[u8]) -> Result<MemoryKeeper, Fail> {
-    let text = Vec::from_slice(alloc, text)?;
-    Ok(MemoryKeeper::with(alloc, Some(text), None)?)
-}
-
-// The fault of these events with such a keeper.
-pub(crate) fn fault_from(
-    alloc: Global,
-    text: &[u8],
-    acts: &[Act<'_>],
-) -> Result<Option<WorldFault>, Fail> {
-    fault_by(alloc, &mut keeper_with(alloc, text)?, acts)
 }
 
 // The fault of these events if this call of the keeper fails, and whether the keeper was given the file of 100 ticks.
@@ -89,10 +74,8 @@ pub(crate) fn failing(
     Ok((fault, was_given(&keeper, &[(HUNDRED, true)])))
 }
 
-// The call of a keeper that fails, if none does; and its first after the start, which loads Lynx and then MS.
+// The call of a keeper that fails, if none does.
 pub(crate) const NO_CALL: u64 = 0;
-
-pub(crate) const FIRST: u64 = 3;
 
 // What a run leaves: a file with its peer; those whose peers were told that they were not kept; the clients that count theirs as sent; an opening's peer, port and count of files
 // taken; the text of the Lynx collection; a datagram's source, target and bytes; the texts that the keeper was given for it,
@@ -171,7 +154,7 @@ fn is_lynx(one: &Kept, text: &[u8], ok: bool) -> bool {
 }
 
 // Whether a keeper was given exactly these texts for Lynx, and kept each or not.
-fn was_given(keeper: &MemoryKeeper, wanted: &[(&[u8], bool)]) -> bool {
+pub(crate) fn was_given(keeper: &MemoryKeeper, wanted: &[(&[u8], bool)]) -> bool {
     let kept = keeper.kept();
     for (one, (text, ok)) in kept.iter().zip(wanted) {
         if !is_lynx(one, text, *ok) {
@@ -182,7 +165,7 @@ fn was_given(keeper: &MemoryKeeper, wanted: &[(&[u8], bool)]) -> bool {
 }
 
 // The part of an outcome that is not as expected, if there is one.
-fn other_part(outcome: &Outcome, wanted: &Wanted<'_>) -> Option<&'static str> {
+pub(crate) fn other_part(outcome: &Outcome, wanted: &Wanted<'_>) -> Option<&'static str> {
     let parts = [
         ("taken", are_taken(outcome.taken.as_slice(), wanted.taken)),
         (
@@ -236,14 +219,4 @@ pub(crate) fn other_after(
     let mut keeper = MemoryKeeper::new(alloc);
     keeper.fail_at(fails);
     other_with(alloc, &mut keeper, acts, wanted)
-}
-
-// The same with a keeper that has this text for Lynx.
-pub(crate) fn other_from(
-    alloc: Global,
-    text: &[u8],
-    acts: &[Act<'_>],
-    wanted: &Wanted<'_>,
-) -> Result<Option<&'static str>, Fail> {
-    other_with(alloc, &mut keeper_with(alloc, text)?, acts, wanted)
 }

@@ -1,8 +1,10 @@
 //! Runs that begin with what the keeper has.
 
-use crate::scene::{Act, NO_CALL, NOTHING, Wanted, failing, fault_from, other_from};
+use crate::scene::{Act, NOTHING, Wanted, events_of, other_part, was_given};
+use archive_memory::MemoryKeeper;
 use archive_table::{KeepFault, LoadFault};
-use archive_world::{SERVER, WorldFault};
+use archive_world::{ReplayFault, SERVER, WorldFault, replay_from};
+use std::alloc::Global;
 use std::test::Fail;
 use test_samples::{
     ACK_0, ACK_1, ALICE, DATA_HUNDRED, EMPTY_MS, HUNDRED, NINETY, PEER, UNREADABLE, WRQ,
@@ -11,6 +13,24 @@ use test_samples::{
 // A file with both solutions, in 100 and in 90 ticks: no text of a collection, and loaded as the better one.
 const BOTH: &[u8; 48] =
     b"\x35\x33\x9B\x99\x01\0\0\0\x10\0\0\0\x01\0BDHP\0\0\0\0\0\0\x64\0\0\0\x10\0\0\0\x01\0BDHP\0\0\0\0\0\0\x5A\0\0\0";
+
+// A keeper that has this text for Lynx.
+fn keeper_with(alloc: Global, text: &[u8]) -> Result<MemoryKeeper, Fail> {
+    let text = Vec::from_slice(alloc, text)?;
+    Ok(MemoryKeeper::with(alloc, Some(text), None)?)
+}
+
+// Why these events have no run from what this keeper has, if they have none.
+fn fault_from(
+    alloc: Global,
+    keeper: &mut MemoryKeeper,
+    acts: &[Act<'_>],
+) -> Result<Option<ReplayFault>, Fail> {
+    match replay_from(alloc, keeper, &events_of(alloc, acts)?) {
+        Ok(_outcome) => Ok(None),
+        Err(fault) => Ok(Some(fault)),
+    }
+}
 
 // What the keeper has is the first file taken. A put that is no better changes nothing, nor does a restart.
 #[test]
@@ -34,32 +54,56 @@ fn a_start_with_a_file(rt: HostRuntime) -> Result<(), Fail> {
             (ALICE, PEER, DATA_HUNDRED),
             (PEER, ALICE, ACK_1),
         ],
-        given: &[(BOTH, true)],
         ..NOTHING
     };
-    assert_eq!(rt; other_from(rt.alloc(), BOTH, ACTS, &WANTED)?, None);
+    let mut keeper = keeper_with(rt.alloc(), BOTH)?;
+    let outcome = replay_from(rt.alloc(), &mut keeper, &events_of(rt.alloc(), ACTS)?)?;
+    assert_eq!(rt;
+        (
+            other_part(&outcome, &WANTED),
+            was_given(&keeper, &[(BOTH, true)])
+        ),
+        (None, true)
+    );
     Ok(())
 }
 
-// The load of Lynx fails, or that of MS.
+// The fault of a restart if this call of the keeper fails.
+fn fault_at(alloc: Global, call: u64) -> Result<Option<ReplayFault>, Fail> {
+    let mut keeper = MemoryKeeper::new(alloc);
+    keeper.fail_at(call);
+    fault_from(alloc, &mut keeper, &[Act::Restart])
+}
+
+// The load of Lynx fails, or that of MS; or that of the restart.
 #[test]
 fn starts_with_a_keeper_that_fails(rt: HostRuntime) -> Result<(), Fail> {
-    const DEVICE: WorldFault = WorldFault::NotStarted(LoadFault::Keep(KeepFault::Device));
-    let lynx = failing(rt.alloc(), 1, &[])?;
-    let ms = failing(rt.alloc(), 2, &[])?;
-    assert_eq!(rt; (lynx, ms), ((Some(DEVICE), false), (Some(DEVICE), false)));
+    const DEVICE: Option<ReplayFault> = Some(ReplayFault::NotStarted(LoadFault::Keep(
+        KeepFault::Device,
+    )));
+    let faults = (
+        fault_at(rt.alloc(), 1)?,
+        fault_at(rt.alloc(), 2)?,
+        fault_at(rt.alloc(), 3)?,
+    );
+    let ended = Some(ReplayFault::Ended(WorldFault::NotLoaded(0)));
+    assert_eq!(rt; faults, (DEVICE, DEVICE, ended));
     Ok(())
 }
 
 // A file of the other ruleset, and bytes that are no file.
 #[test]
 fn starts_with_bytes_that_are_no_collection(rt: HostRuntime) -> Result<(), Fail> {
-    let other = fault_from(rt.alloc(), EMPTY_MS, &[])?;
-    let none = fault_from(rt.alloc(), UNREADABLE, &[])?;
-    let is_unreadable = matches!(none, Some(WorldFault::NotStarted(LoadFault::Unreadable(_))));
+    let alloc = rt.alloc();
+    let other = fault_from(alloc, &mut keeper_with(alloc, EMPTY_MS)?, &[])?;
+    let none = fault_from(alloc, &mut keeper_with(alloc, UNREADABLE)?, &[])?;
+    let is_unreadable = matches!(
+        none,
+        Some(ReplayFault::NotStarted(LoadFault::Unreadable(_)))
+    );
     assert_eq!(rt;
         (other, is_unreadable),
-        (Some(WorldFault::NotStarted(LoadFault::WrongRuleset)), true)
+        (Some(ReplayFault::NotStarted(LoadFault::WrongRuleset)), true)
     );
     Ok(())
 }

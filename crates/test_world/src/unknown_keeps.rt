@@ -1,6 +1,6 @@
 //! Runs in which it is unknown whether a file was kept.
 
-use crate::scene::{Act, FIRST, NO_CALL, NOTHING, Wanted, failing, other_after};
+use crate::scene::{Act, NO_CALL, NOTHING, Wanted, failing, other_after};
 use archive_world::{SERVER, WorldFault};
 use std::test::Fail;
 use test_samples::{ACK_0, ALICE, BOB, DATA_HUNDRED, HUNDRED, NOT_KEPT, PEER, WRQ};
@@ -53,12 +53,12 @@ fn a_keep_that_is_lost(rt: HostRuntime) -> Result<(), Fail> {
     Ok(())
 }
 
-// What is to be found is kept by the first call of the keeper after the start, and loaded by the next two.
+// What is to be found is kept by the first call of the keeper, and loaded by the next two.
 #[test]
 fn keeps_with_a_keeper_that_fails(rt: HostRuntime) -> Result<(), Fail> {
-    let unkept = failing(rt.alloc(), FIRST, &FOUND)?;
-    let found = failing(rt.alloc(), FIRST + 1, &FOUND)?;
-    let lost = failing(rt.alloc(), FIRST, &LOST)?;
+    let unkept = failing(rt.alloc(), 1, &FOUND)?;
+    let found = failing(rt.alloc(), 2, &FOUND)?;
+    let lost = failing(rt.alloc(), 1, &LOST)?;
     assert_eq!(rt;
         (unkept, found, lost),
         (

@@ -16,6 +16,6 @@ pub returns : goal.returns
 returns c =
     let events = events_of c.args.events.now in
     let e = c.in-Err.ensures in
-    let fault = fault_of events _ _ (ap Some c.new-keeper.ensures.kept) c.in-Err.fault _ refl e.not_started e.bad e.reused e.not_kept e.not_loaded e.memory in
+    let fault = fault_of events _ _ (ap Some c.new-keeper.ensures.kept) c.in-Err.fault _ refl e.bad e.reused e.not_kept e.not_loaded e.memory in
     IfOk-weaker c.fault_line.result (λ text. string_bytes text ≡ fault_text c.in-Err.fault) (λ text. Answers events (string_bytes text))
     (λ text is. (_, inr (c.in-Err.fault, fault, is))) c.fault_line.ensures
