@@ -10,7 +10,8 @@ use test_samples::{EMPTY_MS, HUNDRED};
 
 // Whether the file is the only one taken, and the server has it and nothing else.
 fn has_file<A: Allocator>(left: &Left<A>) -> bool {
-    let has_texts = left.lynx.as_slice() == HUNDRED.as_slice() && left.ms.as_slice() == EMPTY_MS;
+    let has_texts = left.lynx.as_slice() == HUNDRED.as_slice()
+        && left.ms.as_slice() == EMPTY_MS.as_slice();
     match left.taken.as_slice() {
         [one] => has_texts && one.peer == SERVER && one.file.as_slice() == HUNDRED.as_slice(),
         _ => false,
