@@ -27,7 +27,7 @@ use Rattle.archive_running.specs.Members.{does, visit_members, late_members}
 use Rattle.archive_running.specs.Archive.{Archive, Brings, after_server, own_endpoint, after_begin, after_client_turn, Moves, server_turns, server_rounds, server_restarts, server_ends, client_begins, client_rounds, client_turns, Reaches, ArchiveRun}
 use Rattle.archive_running.specs.Archive as archive
 use Rattle.archive_running.specs.Calls.{Moment, IsReached, ServesAt, world_at, Meanwhile, still, others, LeavesServer, AfterTurnOrRound, after_turn, after_round, ManyHappen, LeavesClient, RunMembers, turn_members, paced_members, RunStepHappens, RunsHappen, DalliesHappen, ClientAt, begun_at, PutHappens, GetHappens, PutInRoundsHappens, GetInRoundsHappens, PutWasTaken, GetWasWritten}
-use Rattle.archive_running.proofs.Run_Moves.{run-mirrors, run-sent, run-fetched}
+use Rattle.archive_running.proofs.Run_Moves.{put_sent, run-mirrors, run-sent, run-fetched}
 
 -- ---- others move
 
@@ -316,6 +316,7 @@ module _ (o : Origin) (host : ℕ) (away : host ≢ o.home.host) where
     put-taken file r c end n ok = record {
       run = r;
       has_begun = refl;
+      sent = (run-mirrors o (run_to end.there)).sent (own_endpoint host r) c end.client (put_sent (state_of c) (length file) n ok);
       taken = λ own.
           let sent = run-sent o (run_to end.there) (own_endpoint host r) own c (length file) n end.client ok in
           let same = one-begun r (put file) c end own sent.began.0 sent.began.1 sent.began.2 in

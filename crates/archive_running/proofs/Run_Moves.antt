@@ -159,7 +159,7 @@ by_places host calls a brings d has = by (brings d (Has-contains (come_to host c
     by (inr stranger) = inr stranger
 
 -- a put returns Ok only if its client counts the file as sent
-put_sent : (s : State) (len n : ℕ) → put_result s len ≡ Ok n → s ≡ state.Sent
+pub put_sent : (s : State) (len n : ℕ) → put_result s len ≡ Ok n → s ≡ state.Sent
 put_sent state.Running len n e = absurd cc
 put_sent state.Sent len n e = refl
 put_sent state.Got len n e = absurd cc

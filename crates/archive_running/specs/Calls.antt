@@ -1,7 +1,7 @@
 -- Whole calls in the running archive: the turns or rounds that the contracts of `serve_turns`, `serve_rounds`, `run_put`,
 -- `run_get`, `put_in_rounds`, `get_in_rounds` and `Run::dally` list, each at a moment of its own, while others move in
 -- between.
-use Rattle.std.specs.Prelude.{◌≡◌, ◌≢◌, ℕ, Bool, List, ◌∷◌, [], ◌++◌, length, Option, Some, Result, Ok, Err}
+use Rattle.std.specs.Prelude.{◌≡◌, ◌≢◌, ℕ, Bool, List, ◌∷◌, [], ◌++◌, length, Contains, Option, Some, Result, Ok, Err}
 use Rattle.std.specs.Map.{lookup}
 use Rattle.tftp_packet.specs.declared.endpoint.Endpoint.{Endpoint}
 use Rattle.tws_file.specs.declared.«ruleset».Ruleset.{Ruleset}
@@ -178,10 +178,12 @@ GetInRoundsHappens home host rules rounds result before mid after written now (E
 
 -- ---- what is promised of a call that returned Ok
 
--- It began at a port of its own; if the ports of that endpoint are its own, the file was taken exactly once from there.
+-- It began at a port of its own, and its client counts the file as sent; if the ports of that endpoint are its own, the file
+-- was taken exactly once from there.
 pub record PutWasTaken (host : ℕ) (file : List ℕ) (begun : Result Run RunFault) (w : World) : Type 0 where
   pub run : Run
   pub has_begun : begun ≡ Ok run
+  pub sent : Contains w.sent (own_endpoint host run)
   pub taken : IsOwn w (own_endpoint host run) → (s : SentOnce w.past (own_endpoint host run)) × (s.file ≡ file)
 
 -- The same of a get: what it has written is a finished get of this ruleset.
