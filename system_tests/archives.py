@@ -132,17 +132,17 @@ def best(rules, paths):
 
 # ---- one sync
 
-def junk_at(address):
-    """Answers each request at a port of this address with a file that is no solution file; returns the port."""
+def answering_at(address, lynx, ms):
+    """Answers each request to read at a port of this address with the datagram for its ruleset; returns the port."""
     front = socket.socket(socket.AF_INET, socket.SOCK_DGRAM)
     front.bind((address, 0))
 
     def answer():
         while True:
-            _, client = front.recvfrom(2000)
+            request, client = front.recvfrom(2000)
             with socket.socket(socket.AF_INET, socket.SOCK_DGRAM) as end:
                 end.bind((address, 0))
-                end.sendto(b"\0\3\0\1no solution file", client)
+                end.sendto(ms if request.startswith(b"\0\1ms.tws\0") else lynx, client)
 
     threading.Thread(target=answer, daemon=True).start()
     return front.getsockname()[1]
@@ -176,9 +176,14 @@ def one_sync():
     gives("new to each other", sync(near, far, "--new"), 0, "lynx sent 50 bytes\nms sent 29 bytes\n")
     check("all is there", far.collection("lynx") == together + kept[8:])
     far.kill()
-    port = junk_at("127.0.0.4")
+    junk = b"\0\3\0\1no solution file"
+    port = answering_at("127.0.0.4", junk, junk)
     junk = run("sync", "127.0.0.4", near.address, "--port", port, "--to-port", near.port)
     gives("what is no archive", junk, 3, "", "tws: 127.0.0.4: unreadable: BadSignature\n")
+    port = answering_at("127.0.0.4", b"\0\5\0\1gone\0", b"\0\3\0\1" + HEADERS["ms"] + record(3, 60))
+    half = run("sync", "127.0.0.4", near.address, "--port", port, "--to-port", near.port)
+    gives("the second ruleset after the first has failed", half, 4, "ms sent 29 bytes\n", "tws: 127.0.0.4: transfer failed: refused 1\n")
+    check("the second ruleset was brought", near.collection("ms") == HEADERS["ms"] + record(3, 60))
     near.kill()
     gives("no address", run("sync", "127.0.0.256", "127.0.0.1"), 1, "", "tws: bad address\n")
 
