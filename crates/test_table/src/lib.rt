@@ -11,6 +11,8 @@ mod drawing;
 #[cfg(test)]
 mod keeping;
 #[cfg(test)]
+mod places;
+#[cfg(test)]
 mod plain;
 #[cfg(test)]
 mod plain_file;
