@@ -2,6 +2,8 @@
 #![tactic(auto)]
 
 #[cfg(test)]
+mod archives;
+#[cfg(test)]
 mod pairs;
 #[cfg(test)]
 mod ports;
