@@ -1,9 +1,11 @@
 //! A caller of `archive_keepers`.
 
-ghost use Rattle.std.specs.Prelude.{◌≤◌, length, OnOk};
+ghost use Rattle.std.specs.Prelude.{◌≡◌, ◌≤◌, length, OnOk};
 ghost use Rattle.tws_best.specs.Best.{collection_text};
+ghost use Rattle.tws_file.specs.Text.{File, IsText};
+ghost use Rattle.archive_keepers.specs.Readable.{stopping};
 
-use archive_keepers::{FolderKeeper, Limited};
+use archive_keepers::{FolderKeeper, Limited, Readable};
 use archive_table::{KeepFault, Keeper};
 use folders::Folder;
 use std::alloc::Global;
@@ -29,5 +31,17 @@ pub fn keep_within<K: Keeper + Drop>(
     ensures { OnOk result (length (collection_text collection.now) ≤ limit) }
 {
     let mut keeper = Limited::new(keeper, limit);
+    keeper.keep(collection.ruleset(), collection)
+}
+
+/// Gives a collection to a keeper that has none yet, unless a solution in it stops Tile World.
+pub fn keep_readable<K: Keeper + Drop>(
+    alloc: Global,
+    keeper: K,
+    collection: &Collection,
+) -> Result<(), KeepFault>
+    ensures { (file : File) → IsText (collection_text collection.now) file → OnOk result (stopping file ≡ 0) }
+{
+    let mut keeper = Readable::new(keeper, alloc, false);
     keeper.keep(collection.ruleset(), collection)
 }
