@@ -175,9 +175,14 @@ function chosenPair() {
   return [undefined, undefined];
 }
 
+/** The name of the file with what is better: the one that the lines for a shell send. @param {Shown} mine @param {Shown} theirs */
+function betterName(mine, theirs) {
+  return theirs.archive ? "better.tws" : `${stemOf(mine.name)}-better.tws`;
+}
+
 /** @param {Shown} mine @param {Shown} theirs */
 function comparisonButtons(mine, theirs) {
-  const better = `${stemOf(mine.name)}-better.tws`;
+  const better = betterName(mine, theirs);
   const made = [
     button("Save what is better in mine", () => save(better, "files_better", mine, theirs)),
     button("Save the best of both", () => save(`best-${mine.ruleset}.tws`, "files_best", mine, theirs)),
@@ -191,10 +196,10 @@ function comparisonButtons(mine, theirs) {
 function sendingOf(mine, theirs, rows) {
   if (!theirs.archive) return [];
   if (!rows.some((row) => row.side === "mine")) return [element("p", "The archive has nothing to gain from mine.")];
-  const name = "better.tws";
+  const name = betterName(mine, theirs);
   const made = [];
   if (sender) made.push(button("Send what is better in mine", () => send(mine, theirs)));
-  made.push(element("p", `To send it from a shell, save it as ${name}, and type one of these:`));
+  made.push(element("p", `To send it from a shell, save it, and type one of these where ${name} is:`));
   return [...made, ...sendingLines(location.hostname, name).map((line) => element("code", line))];
 }
 

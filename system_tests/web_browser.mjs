@@ -1,13 +1,13 @@
-// web_browser.mjs CHROMIUM PAGE PROGRAM FOLDER [URL]: the page in headless Chromium: files are dropped, buttons are pressed,
-// and what is saved is compared byte for byte with what the built program makes of the same files. With a URL, the page there
-// lies beside the collections of a server and put.cgi. The last line counts the checks.
+// web_browser.mjs CHROMIUM PAGE PROGRAM FOLDER [URL [down]]: the page in headless Chromium: files are dropped, buttons are
+// pressed, and what is saved is compared byte for byte with what the built program makes of the same files. With a URL, the
+// page there lies beside the collections of a server, which may be down, and put.cgi. The last line counts the checks.
 import { spawnSync } from "node:child_process";
 import fs from "node:fs";
 import path from "node:path";
 import { openPage, saved, startBrowser } from "./web_chromium.mjs";
 import { check, finish } from "./web_page.mjs";
 
-const [chromium, page, program, folder, url] = process.argv.slice(2);
+const [chromium, page, program, folder, url, down] = process.argv.slice(2);
 const browser = await startBrowser(chromium, folder);
 const at = (name) => path.join(folder, name);
 const made = (...words) => spawnSync(program, words, { maxBuffer: 1 << 28 }).stdout;
@@ -21,11 +21,23 @@ const LOOKS = [["wide-light", 1100, 1000, "light"], ["wide-dark", 1100, 1000, "d
   ["narrow-dark", 320, 1000, "dark"], ["page", 600, 620, "light"]];
 const PICTURE_LIMIT = 60000;
 
+const SEND = "Send what is better in mine";
+// Which rule of the page's policy forbids what is asked of another server.
+const FORBIDDEN = `new Promise((resolve) => {
+  document.addEventListener("securitypolicyviolation", (event) => resolve(event.violatedDirective));
+  fetch("http://localhost:9/").catch(() => setTimeout(resolve, 1000));
+})`;
+
 /** A button saves what the program makes. */
 async function saves(tab, text, name, wanted, within = "main") {
   check(`the button ${text}`, await tab.press(text, within));
   const got = await saved(browser, name);
   check(`${text} saves ${name}`, got !== undefined && Buffer.compare(got, wanted) === 0);
+}
+
+/** The numbers of the levels that a file has solved. */
+function levelsOf(name) {
+  return String(made("show", "--csv", at(name))).trim().split("\n").slice(1).map((line) => Number(line.split(",")[0]));
 }
 
 /** The page by itself, as it is opened from a folder. */
@@ -39,6 +51,12 @@ async function alone() {
   const line = String(made("compare", at("mine.tws"), at("theirs.tws"))).trimEnd().split("\n").pop();
   const count = (name) => line.match(new RegExp(`${name} (\\d+)`))[1];
   check("the counts", (await tab.run(counts)).startsWith(`${count("levels")} levels: ${count("only mine")} only mine`));
+  const bars = await tab.run("['mine', 'theirs'].map((side) => document.querySelectorAll(`#plot rect.${side}`).length)");
+  check("a bar for each difference", bars.join() === [count("mine better"), count("theirs better")].join());
+  const known = fs.readFileSync(at("levels.csv"), "utf8").trim().split("\n").length - 1;
+  const either = new Set([...levelsOf("mine.tws"), ...levelsOf("ms.tws")].filter((level) => level <= known));
+  const grey = await tab.run("document.querySelectorAll('#levels .unsolved').length");
+  check("levels that neither has solved are grey", grey > 0 && grey === known - either.size);
   const faults = (await tab.run(texts("#files .fault"))).join();
   check("a fault in words", faults.includes("cut.tws: the moves end inside the move at byte 50"));
   check("names are text", (await tab.run(texts("#files h2"))).includes("hostile <b>&'.tws"));
@@ -85,6 +103,10 @@ async function alone() {
   check("a large file", await tab.until(`${said}.startsWith("large.tws: 20000 solutions")`, 120));
   check("it was shown that the work goes on", await tab.run("window.hasWorked && document.getElementById('working').hidden"));
   check("the first of its rows", (await tab.run(texts("p"))).includes("The first 500 of 20000 rows."));
+  await tab.press("Show more rows", last);
+  check("more of its rows", (await tab.run(texts("p"))).includes("The first 1000 of 20000 rows."));
+  await tab.choose("#choose", [at("more.tws")]);
+  check("a file is chosen", await tab.until(`${said} === "more.tws: 1 solution."`));
   check("no problems", tab.problems().length === 0 || (console.log(tab.problems()), false));
 }
 
@@ -114,17 +136,37 @@ async function published() {
   const tab = await openPage(browser, url);
   check("the published page is ready", await tab.until(isReady));
   check("the archive's files are there", (await tab.run(texts("#files h2"))).join() === "lynx.tws,ms.tws");
+  check("the folder's names of levels are there", (await tab.run(texts("#levels td"))).includes("LEVEL 1"));
   await tab.drop([at("mine.tws")]);
   check("mine is compared with the archive's", await tab.until(`${counts}.includes("only mine")`));
   check("the line for a shell", (await tab.run(texts("#send code"))).includes("tws put 127.0.0.1 better.tws"));
-  check("there is a button", await tab.press("Send what is better in mine"));
+  const better = made("compare", "--better", at("mine.tws"), at("www/lynx.tws"));
+  await saves(tab, "Save what is better in mine", "better.tws", better);
+  const pressed = await Promise.all([1, 2].map(() => tab.press(SEND)));
+  check("there is a button", pressed[0]);
   check("it is sent", await tab.until(`${said}.startsWith("Sent: ")`));
   const nothing = "The archive has nothing to gain from mine.";
   check("the archive has it", await tab.until(`document.getElementById('send').textContent === "${nothing}"`));
   check("no problems there", tab.problems().length === 0 || (console.log(tab.problems()), false));
+  check("nothing outside is asked", (await tab.run(FORBIDDEN)) === "connect-src");
 }
 
-if (url) {
+/** The page of an archive that is down, and then of a web server that is down. */
+async function unsent() {
+  const tab = await openPage(browser, url);
+  check("the page is there", await tab.until(isReady));
+  await tab.drop([at("more.tws")]);
+  check("there is a level to send", await tab.until(`${counts}.includes(" 1 only mine")`));
+  await tab.press(SEND);
+  check("the archive is down", await tab.until(`${said}.startsWith("Not sent: the archive does not answer.")`));
+  await tab.goOffline();
+  await tab.press(SEND);
+  check("the web server is down", await tab.until(`${said} === "Not sent: the web server does not answer."`));
+}
+
+if (down) {
+  await unsent();
+} else if (url) {
   await published();
 } else {
   await alone();

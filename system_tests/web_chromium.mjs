@@ -71,6 +71,13 @@ export async function openPage(browser, url) {
       await send("Input.dispatchDragEvent", { type, x: 150, y: 150, data });
     }
   };
+  const choose = async (selector, files) => {
+    const { root } = await send("DOM.getDocument");
+    const { nodeId } = await send("DOM.querySelector", { nodeId: root.nodeId, selector });
+    await send("DOM.setFileInputFiles", { nodeId, files });
+  };
+  const goOffline = () => send("Network.emulateNetworkConditions",
+    { offline: true, latency: 0, downloadThroughput: -1, uploadThroughput: -1 });
   const resize = (width, height, scheme) => Promise.all([
     send("Emulation.setDeviceMetricsOverride", { width, height, deviceScaleFactor: 1, mobile: false }),
     send("Emulation.setEmulatedMedia", { features: [{ name: "prefers-color-scheme", value: scheme }] }),
@@ -81,7 +88,7 @@ export async function openPage(browser, url) {
     .map((event) => event.params.entry?.text ?? JSON.stringify(event.params))
     // What a folder may lack is asked for all the same.
     .filter((text) => !/status of 404/.test(text));
-  return { send, run, until, press, drop, resize, picture, problems };
+  return { run, until, press, drop, choose, goOffline, resize, picture, problems };
 }
 
 /** The bytes of a file once it was saved whole. */

@@ -1,6 +1,7 @@
 #!/usr/bin/env python3
 """web_files.py FOLDER: writes the files that the tests of the page drop on it: two players' files of a set of 149 levels, one
-of the other ruleset, one with a hostile name, an unreadable one, a large one, and a list of the levels."""
+of the other ruleset, one with a hostile name, one of a further level, an unreadable one, a large one, and a list of the
+levels."""
 import pathlib
 import random
 import struct
@@ -36,6 +37,7 @@ def main():
     (folder / "mine.tws").write_bytes(file_of(LYNX, mine))
     (folder / "ms.tws").write_bytes(file_of(MS, ms))
     (folder / "hostile <b>&'.tws").write_bytes(file_of(LYNX, theirs[:9]))
+    (folder / "more.tws").write_bytes(file_of(LYNX, [(LEVELS + 2, b"LAST", 500, move)]))
     (folder / "large.tws").write_bytes(file_of(MS, large))
     (folder / "cut.tws").write_bytes(pathlib.Path("examples/cut.tws").read_bytes())
     names = [f"LEVEL {n + 1}" for n in range(LEVELS)]

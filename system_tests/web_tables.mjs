@@ -72,6 +72,8 @@ same("filtered by a number", tables.filtered([{ a: "Keys", b: 1 }, { a: "End", b
 same("sent", tables.sentShown("sent 51 bytes\nstatus 0\n"),
   { sent: true, words: "Sent: the archive has taken the file. Its records here show it once they are published again. (sent 51 bytes)" });
 same("too long", tables.sentShown("too long\nstatus 1\n").words, "Not sent: the file is too long. (too long)");
+const unreadable = "tws: standard input: unreadable: BadSignature\ntws: this is no solution file\nstatus 3\n";
+same("no solution file", tables.sentShown(unreadable).words.split(" (")[0], "Not sent: this is not a solution file.");
 same("timed out", tables.sentShown("tws: transfer failed: timed out\nstatus 4\n").words,
   "Not sent: the archive does not answer. (tws: transfer failed: timed out)");
 same("refused", tables.sentShown("tws: transfer failed: refused 0\ntws: the server says: not kept\nstatus 4\n").words,
