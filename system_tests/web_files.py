@@ -14,11 +14,11 @@ LYNX, MS = 1, 2
 
 
 def file_of(ruleset, solved):
-    records = b""
+    parts = [SIGNATURE + bytes([ruleset, 0, 0, 0])]
     for level, password, ticks, moves in solved:
         body = struct.pack("<H4sBBII", level, password, 0, 0, 0, ticks) + moves
-        records += struct.pack("<I", len(body)) + body
-    return SIGNATURE + bytes([ruleset, 0, 0, 0]) + records
+        parts.append(struct.pack("<I", len(body)) + body)
+    return b"".join(parts)
 
 
 def main():
