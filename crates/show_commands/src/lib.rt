@@ -8,6 +8,7 @@
 //! its text into a file, for every command on files.
 #![tactic(auto)]
 
+mod announced_input;
 mod input;
 mod one_input;
 mod output;
@@ -17,6 +18,7 @@ mod reader_sink;
 pub mod show;
 mod show_job;
 
+pub use announced_input::AnnouncedInput;
 pub use input::read_input;
 pub use one_input::{OneInputCommand, run_one_input};
 pub use output::{output_argument, output_name, refuse_terminal, save};

@@ -4,12 +4,17 @@
 use std::io::IsTerminal;
 use std::process::ExitCode;
 use std::{env, io};
-use tws_tool::{WithLastError, report_arguments, report_streams, run_words};
+use tws_tool::{AnnouncedInput, WithLastError, report_arguments, report_streams, run_words};
 
 fn run(rt: &HostRuntime) -> io::Result<u8> {
     let words: Vec<String> = env::args(rt)?.collect(rt.alloc())?;
+    let announces = if rt.stdin().is_terminal() {
+        Some(rt.stderr())
+    } else {
+        None
+    };
     let (mut input, mut out) = (
-        WithLastError::new(rt.stdin()),
+        WithLastError::new(AnnouncedInput::new(rt.stdin(), announces)),
         WithLastError::new(rt.stdout()),
     );
     let mut errors = rt.stderr();

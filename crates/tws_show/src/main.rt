@@ -3,7 +3,7 @@
 #![tactic(auto)]
 
 use command_line::{report_arguments, report_streams};
-use show_commands::run_show_words;
+use show_commands::{AnnouncedInput, run_show_words};
 use std::io::IsTerminal;
 use std::process::ExitCode;
 use std::{env, io};
@@ -11,8 +11,13 @@ use system_files::{System, WithLastError};
 
 fn run(rt: &HostRuntime) -> io::Result<u8> {
     let words: Vec<String> = env::args(rt)?.collect(rt.alloc())?;
+    let announces = if rt.stdin().is_terminal() {
+        Some(rt.stderr())
+    } else {
+        None
+    };
     let (mut input, mut out) = (
-        WithLastError::new(rt.stdin()),
+        WithLastError::new(AnnouncedInput::new(rt.stdin(), announces)),
         WithLastError::new(rt.stdout()),
     );
     let mut errors = rt.stderr();

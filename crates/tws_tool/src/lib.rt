@@ -32,6 +32,8 @@ pub use file_commands::{
 pub use job::Job;
 pub use laws::words_of_commands;
 pub use program::{run_words, run_words_with};
-pub use show_commands::{PackArguments, ShowArguments, run_csv, run_pack, run_show};
+pub use show_commands::{
+    AnnouncedInput, PackArguments, ShowArguments, run_csv, run_pack, run_show,
+};
 pub use system_files::{FileSystem, System, WithLastError};
 pub use words::job_of;
