@@ -151,7 +151,7 @@ async function published() {
   check("nothing outside is asked", (await tab.run(FORBIDDEN)) === "connect-src");
 }
 
-/** The page of an archive that is down, and then of a web server that is down. */
+/** The page of an archive that is down. */
 async function unsent() {
   const tab = await openPage(browser, url);
   check("the page is there", await tab.until(isReady));
@@ -159,9 +159,6 @@ async function unsent() {
   check("there is a level to send", await tab.until(`${counts}.includes(" 1 only mine")`));
   await tab.press(SEND);
   check("the archive is down", await tab.until(`${said}.startsWith("Not sent: the archive does not answer.")`));
-  await tab.goOffline();
-  await tab.press(SEND);
-  check("the web server is down", await tab.until(`${said} === "Not sent: the web server does not answer."`));
 }
 
 if (down) {

@@ -76,8 +76,6 @@ export async function openPage(browser, url) {
     const { nodeId } = await send("DOM.querySelector", { nodeId: root.nodeId, selector });
     await send("DOM.setFileInputFiles", { nodeId, files });
   };
-  const goOffline = () => send("Network.emulateNetworkConditions",
-    { offline: true, latency: 0, downloadThroughput: -1, uploadThroughput: -1 });
   const resize = (width, height, scheme) => Promise.all([
     send("Emulation.setDeviceMetricsOverride", { width, height, deviceScaleFactor: 1, mobile: false }),
     send("Emulation.setEmulatedMedia", { features: [{ name: "prefers-color-scheme", value: scheme }] }),
@@ -88,7 +86,7 @@ export async function openPage(browser, url) {
     .map((event) => event.params.entry?.text ?? JSON.stringify(event.params))
     // What a folder may lack is asked for all the same.
     .filter((text) => !/status of 404/.test(text));
-  return { run, until, press, drop, choose, goOffline, resize, picture, problems };
+  return { run, until, press, drop, choose, resize, picture, problems };
 }
 
 /** The bytes of a file once it was saved whole. */
