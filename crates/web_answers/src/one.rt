@@ -24,6 +24,9 @@ fn read<A: Allocator + Copy>(alloc: A, bytes: &[u8]) -> Result<TwsFile<A>, WebFa
     }
 }
 
+// No line of comma-separated values is longer: ten columns of at most 5, 9, 10, 12, 10, 10, 2, 2, 10 and 4 characters.
+const LINE: usize = 84;
+
 /// The file's solutions as comma-separated values.
 ///
 /// # Errors
@@ -35,6 +38,8 @@ pub fn csv<A: Allocator + Copy>(alloc: A, bytes: &[u8]) -> Result<Vec<u8, A>, We
 {
     let file = read(alloc, bytes)?;
     let mut text = Vec::new(alloc);
+    // Room for the whole text at once is touched once. Where it is refused, the text grows as it needs to.
+    let _ = text.reserve(file.records.len().saturating_add(1).saturating_mul(LINE));
     write_csv(alloc, &file, &mut text)?;
     Ok(text)
 }
