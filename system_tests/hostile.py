@@ -8,7 +8,6 @@ import resource
 import select
 import shutil
 import signal
-import socket
 import subprocess
 import sys
 import time
@@ -19,6 +18,7 @@ from attacking import (
     FOLDER, Flood, HEADER, RRQ, Server, WRQ, check, counts, done, drain, end, file, loaded, memory_of, processes,
     record, request, run, sent_but_for_the_last, sockets_of, stop,
 )
+from holding import neighbours_give_way, own_address, requests_alone_hold_no_place, slow_transfers_give_way
 from saying import a_server_that_stops_answering, what_a_server_says
 
 
@@ -82,13 +82,8 @@ def who_may_not_put_costs_no_port():
 
 def one_host_does_not_close_the_archive():
     """A host that asks for 64 transfers and continues none has 32 of them, and others are served at once."""
-    probe = socket.socket(socket.AF_INET, socket.SOCK_DGRAM)
-    try:
-        probe.connect(("192.0.2.1", 9))
-        host = probe.getsockname()[0]
-    except OSError:
-        host = "127.0.0.1"
-    if host.startswith("127."):
+    host = own_address()
+    if host is None:
         print("requests of one host: not tried, since this host has no other address than 127.x.x.x")
         return
     with Server() as server:
@@ -145,12 +140,14 @@ def other_hosts_get_no_answer():
 def junk_is_no_progress(host):
     """A get that nobody answers times out, whatever junk comes from this host."""
     silent = end()
-    process = run("get", "127.0.0.1", "lynx", os.path.join(FOLDER, f"none-{host}"), "--port", silent.getsockname()[1])
+    asked = silent.getsockname()[1]
+    process = run("get", "127.0.0.1", "lynx", os.path.join(FOLDER, f"none-{host}"), "--port", asked)
     _, (_, port) = silent.recvfrom(2000)
     with Flood(port, 250, hosts=(host,), ends=5):
         status, text, took = done(process, 20)
     print(f"250 junk datagrams a second from {host}: the get timed out after {took:.1f} s")
-    check(f"a get with junk from {host}", status == 4 and text == b"tws: transfer failed: timed out\n" and took < 6)
+    says = b"tws: transfer failed: timed out\ntws: no answer from 127.0.0.1 port %d: " % asked
+    check(f"a get with junk from {host}: {text}", status == 4 and text.startswith(says) and took < 6)
 
 
 def five_time_outs_end_a_transfer():
@@ -466,6 +463,9 @@ def main():
         junk_costs_no_port,
         who_may_not_put_costs_no_port,
         one_host_does_not_close_the_archive,
+        requests_alone_hold_no_place,
+        slow_transfers_give_way,
+        neighbours_give_way,
         other_hosts_get_no_answer,
         what_a_server_says,
         five_time_outs_end_a_transfer,

@@ -14,7 +14,7 @@ use Rattle.archive_wire.specs.declared.limits.TheConstants.{QUIET_TURNS}
 use Rattle.archive_wire.specs.Wire.{Entry, waited, Grows, datagram}
 use Rattle.archive_server.specs.declared.mode.Mode.{Mode}
 use Rattle.archive_server.specs.declared.mode.Mode.TheVariants.{Round}
-use Rattle.archive_server.specs.Timers.{timers_after, is_quiet, late_ports, earliest}
+use Rattle.archive_server.specs.Timers.{timers_after, late_ports, earliest}
 use Rattle.archive_server.specs.Turn.{Answers, Server, IsRound, Visited, Walk, KeepsAsked, next_asks, next_admits, next_visit, ready_next, walk_after, noted_or, open_policies}
 use Rattle.archive_runs.specs.Run.{Run, RunAnswers, IsRunTurn, run_turn, Runs, begin_opened, Begins, RunsPut}
 use Rattle.archive_runs.specs.Run as runs
@@ -57,7 +57,7 @@ calls_of port a answers = waited 0 (earliest []) (Some port) 0 None ∷ ((visite
 abbrev pub a_round : (port : ℕ) (a : Archive) (answers : Answers) (now : Option (List Keeping)) →
     Merges (visited port a answers).taken a.server.maps (visited port a answers).server.maps →
     KeepsAsked (next_asks (ready_next (Some port) a.server) answers a.server) a.server.maps (visited port a answers).server.maps a.kept now →
-    [] ≡ late_ports mode (is_quiet (visited port a answers).change) (timers_after mode (visited port a answers).change []) (visited port a answers).server →
+    [] ≡ late_ports mode (visited port a answers).change (timers_after mode (visited port a answers).change []) (visited port a answers).server →
     answers.admitted ≡ next_admits mode (ready_next (Some port) a.server) [] answers.receipt a.server →
     IsRound (before a) (after port a answers) (is_some (visited port a answers).taken) (calls_of port a answers) a.kept now
 a_round port a answers now merges keeps late let_in =

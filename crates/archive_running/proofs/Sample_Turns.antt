@@ -17,7 +17,7 @@ use Rattle.archive_wire.specs.Wire.{Entry, Replies, datagram}
 use Rattle.archive_server.specs.declared.mode.Mode.{Mode}
 use Rattle.archive_server.specs.declared.mode.Mode.TheVariants.{Turn}
 use Rattle.archive_server.specs.declared.next.Next.{Next}
-use Rattle.archive_server.specs.Timers.{timers_after, is_quiet, late_ports}
+use Rattle.archive_server.specs.Timers.{timers_after, late_ports}
 use Rattle.archive_server.specs.Turn.{IsTurnIn, Answers, Server, IsTurn, Visited, KeepsAsked, next_asks, next_admits, next_visit, turn_next, walk_after, noted, open_policies}
 use Rattle.archive_runs.specs.Run.{Run, RunAnswers, run_turn, begin_opened}
 use Rattle.archive_model.specs.World.{Datagram, Origin, empty_origin, server_endpoint}
@@ -48,7 +48,7 @@ brings_at host calls a x n come at d among =
 abbrev pub a_visit : (mode : Mode) (next : Next) (table : Table) (answers : Answers) (kept now : Option (List Keeping)) →
     Merges (next_visit next answers table).taken table.maps (next_visit next answers table).server.maps →
     KeepsAsked (next_asks next answers table) table.maps (next_visit next answers table).server.maps kept now →
-    [] ≡ late_ports mode (is_quiet (next_visit next answers table).change) (timers_after mode (next_visit next answers table).change [])
+    [] ≡ late_ports mode (next_visit next answers table).change (timers_after mode (next_visit next answers table).change [])
     (next_visit next answers table).server →
     answers.admitted ≡ next_admits mode next [] answers.receipt table →
     IsTurnIn mode next table (walk_after mode (next_visit next answers table) [] []).server []
@@ -105,7 +105,7 @@ nothing_kept = Some []
 -- the visit is a turn, if no port times out after it
 abbrev a_turn : (a : Archive) (answers : Answers) → Merges (visited a answers).taken a.server.maps (visited a answers).server.maps →
     KeepsAsked (next_asks (turn_next (before a)) answers a.server) a.server.maps (visited a answers).server.maps nothing_kept nothing_kept →
-    [] ≡ late_ports Turn (is_quiet (visited a answers).change) (timers_after Turn (visited a answers).change []) (visited a answers).server →
+    [] ≡ late_ports Turn (visited a answers).change (timers_after Turn (visited a answers).change []) (visited a answers).server →
     answers.admitted ≡ next_admits Turn (turn_next (before a)) [] answers.receipt a.server →
     IsTurn (before a) (after a answers) (is_some (visited a answers).taken) (calls_of a answers) nothing_kept nothing_kept
 a_turn a answers merges keeps late let_in =

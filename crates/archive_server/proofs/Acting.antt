@@ -1,8 +1,7 @@
 -- The calls after a step: what is sent, and what is closed.
-use Rattle.std.specs.Prelude.{◌≡◌, ℕ, Bool, true, false, List, [], ◌∷◌, Option, None, Some}
-use Rattle.std.proofs.Common.{sym, subst}
+use Rattle.std.specs.Prelude.{◌≡◌, ℕ, Bool, true, false, List, [], ◌∷◌, Option, None}
 use Rattle.tftp_packet.specs.declared.out.Out.{Out}
-use Rattle.archive_wire.specs.Wire.{Entry, Grows, closed, sent, SendsOut}
+use Rattle.archive_wire.specs.Wire.{Entry, Grows, closed, SendsOut}
 use Rattle.archive_server.specs.Parts.{Acts}
 use Rattle.archive_wire.proofs.Growing.{grows_none, grows_join}
 

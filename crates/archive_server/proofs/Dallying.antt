@@ -1,6 +1,6 @@
 -- A transfer that only dallies ends in the time-outs after a visit that finds all places taken: its port times out
 -- twice, and each time-out leaves one less of a dally.
-use Rattle.std.specs.Prelude.{◌≡◌, ◌≢◌, ℕ, ◌+◌, ◌-◌, ◌<◌, ◌≤◌, ◌==◌, ◌&&◌, ◌||◌, not, nat_lt, Bool, true, false, cond, List, [], ◌∷◌, length, take, Option, None, Some, IfSome, is_some, option_map, unwrap_or}
+use Rattle.std.specs.Prelude.{◌≡◌, ◌≢◌, ℕ, ◌+◌, ◌-◌, ◌<◌, ◌≤◌, ◌==◌, ◌&&◌, ◌||◌, not, nat_lt, Bool, true, false, cond, List, [], ◌∷◌, ◌++◌, length, take, Option, None, Some, IfSome, is_some, option_map, unwrap_or}
 use Rattle.std.proofs.Common.{refl, sym, ap, subst, ◌∙◌, inl, inr, arith, get_or, eq-eqb}
 use Rattle.std.specs.List.{All, AllByRecursion, IsDistinct, count_by, filter}
 use Rattle.std.specs.Map.{lookup, remove_entry, set_value, keys_of}
@@ -22,10 +22,12 @@ use Rattle.tftp_ends.specs.Ends.{SendAnswer, Receiver, RecvAnswer, IsReceiver, s
 use Rattle.archive_table.specs.declared.limits.TheConstants.{LIVE}
 use Rattle.archive_table.specs.Table.{Table, End, sending, receiving, Transfer, IsEnd, IsTable, AreRising, at_port, transfer_at, has_slot, is_complete, is_done, is_dallying, goes_on, closes, sending_goes_on, receiving_goes_on, waits_at, timeout_at, table_timeout}
 use Rattle.archive_table.proofs.Live.{if_true, if_false, some_none}
+use Rattle.archive_server.specs.declared.change.Change.{Change}
 use Rattle.archive_server.specs.declared.mode.Mode.{Mode}
 use Rattle.archive_server.specs.declared.mode.Mode.TheVariants.{Turn, Round}
 use Rattle.archive_server.specs.declared.timer.Timer.{Timer}
-use Rattle.archive_server.specs.Timers.{ports_of, live_ports, due_by, is_due, gives_way, giving_ports, late_ports, HasGivenWay, Tracks}
+use Rattle.archive_server.specs.Places.{victim}
+use Rattle.archive_server.specs.Timers.{ports_of, live_ports, is_quiet, due_by, is_due, gives_way, giving_ports, victim_ports, late_ports, HasGivenWay, Tracks}
 use Rattle.archive_server.proofs.Ports.{at_is, remove_port}
 use Rattle.archive_server.proofs.Transfers.{server_timeout_step}
 
@@ -309,12 +311,12 @@ or_true false b is = is
 too_many : (now first count dally : ℕ) → now ≤ first - count → 1 ≤ now → first ≤ dally → dally ≡ 2 → 2 ≤ count → ⊥
 too_many now first count dally falls more most two many = omega (arith, falls, more, most, two, many)
 
-counts_twice : (a b m n : ℕ) → 1 ≤ a → a ≤ m → a ≤ n → b ≡ m + n → 2 ≤ b
-counts_twice a b m n one left right is = omega (arith, one, left, right, is)
+counts_twice : (a b c m n k : ℕ) → 1 ≤ a → a ≤ m → a ≤ n → b ≡ c + k → c ≡ m + n → 2 ≤ b
+counts_twice a b c m n k one left right is rest = omega (arith, one, left, right, is, rest)
 
-none_left : (now settled policies : _) (quiet : Bool) (timers : List Timer) (s new : Table) → Tracks s timers → IsTable new →
-    Falls (late_ports (Round now settled policies) quiet timers s) s new → has_slot new ≡ false → (port : ℕ) → is_dallying port new ≡ true → ⊥
-none_left now settled policies quiet timers s new tracks fits falls full port done =
+none_left : (now settled policies : _) (change : Change) (timers : List Timer) (s new : Table) → Tracks s timers → IsTable new →
+    Falls (late_ports (Round now settled policies) change timers s) s new → has_slot new ≡ false → (port : ℕ) → is_dallying port new ≡ true → ⊥
+none_left now settled policies change timers s new tracks fits falls full port done =
     let mode = Round now settled policies in
     let more : 1 ≤ left_of_port port new = some_left (transfer_at port new) done (IfSome-lookup_from_All (λ (t : Transfer). IsEnd t.end) (at_port port) new.live fits.ends) in
     let was = left_dallies (transfer_at port s) (omega (arith, more, falls.left port)) in
@@ -322,20 +324,24 @@ none_left now settled policies quiet timers s new tracks fits falls full port do
     let way : gives_way mode port s ≡ true = ap (λ b. not b && is_dallying port s) all_taken ∙ was.2 in
     let way_of : (t : Timer) → t.port ≡ port → gives_way mode t.port s ≡ true = λ t is. ap (λ (p : ℕ). gives_way mode p s) is ∙ way in
     let here : 1 ≤ count_by (λ p. p == port) (ports_of timers) = subst (λ (ps : List ℕ). 1 ≤ count_by (λ p. p == port) ps) (sym tracks.tracks) (count_found port s.live was.0 was.1) in
-    let late = λ (t : Timer). is_due (due_by mode quiet) t || gives_way mode t.port s in
-    let first = count_filter late port timers (λ t is. or_true (is_due (due_by mode quiet) t) (gives_way mode t.port s) (way_of t is)) in
+    let late = λ (t : Timer). is_due (due_by mode (is_quiet change)) t || gives_way mode t.port s in
+    let first = count_filter late port timers (λ t is. or_true (is_due (due_by mode (is_quiet change)) t) (gives_way mode t.port s) (way_of t is)) in
     let second = count_filter (λ t. gives_way mode t.port s) port timers way_of in
-    let both = sum_by-append (λ p. cond (p == port) 1 0) (ports_of (filter late timers)) (giving_ports mode timers s) in
-    too_many _ _ _ DALLY (falls.left port) more (left_most (transfer_at port s)) refl (counts_twice _ _ _ _ here first second both)
+    let counts = λ (p : ℕ). cond (p == port) 1 0 in
+    let one_more = victim_ports (victim mode change timers s) in
+    let giving = giving_ports mode timers s in
+    let both = sum_by-append counts (ports_of (filter late timers) ++ giving) one_more in
+    let rest = sum_by-append counts (ports_of (filter late timers)) giving in
+    too_many _ _ _ DALLY (falls.left port) more (left_most (transfer_at port s)) refl (counts_twice _ _ _ _ _ _ here first second both rest)
 
 -- after these time-outs, by a loop over their ports, no transfer dallies if all places are still taken
-pub has_given_way : (mode : Mode) (quiet : Bool) (timers : List Timer) (s new : Table) (items : List ℕ) (i : ℕ) → Tracks s timers → IsTable new →
-    length items ≤ i → items ≡ late_ports mode quiet timers s → Falls (take i items) s new → HasGivenWay mode new
-has_given_way Turn quiet timers s new items i tracks fits whole is falls = tt
-has_given_way (Round now settled policies) quiet timers s new items i tracks fits whole is falls =
+pub has_given_way : (mode : Mode) (change : Change) (timers : List Timer) (s new : Table) (items : List ℕ) (i : ℕ) → Tracks s timers → IsTable new →
+    length items ≤ i → items ≡ late_ports mode change timers s → Falls (take i items) s new → HasGivenWay mode new
+has_given_way Turn change timers s new items i tracks fits whole is falls = tt
+has_given_way (Round now settled policies) change timers s new items i tracks fits whole is falls =
     let all : Falls items s new = subst (λ (ps : List ℕ). Falls ps s new) (take_all i items whole) falls in
-    let late : Falls (late_ports (Round now settled policies) quiet timers s) s new = subst (λ (ps : List ℕ). Falls ps s new) is all in
+    let late : Falls (late_ports (Round now settled policies) change timers s) s new = subst (λ (ps : List ℕ). Falls ps s new) is all in
     λ full port. elim (cases_Bool (is_dallying port new)) [
-      | inl y ↦ absurd (none_left now settled policies quiet timers s new tracks fits late full port y)
+      | inl y ↦ absurd (none_left now settled policies change timers s new tracks fits late full port y)
       | inr n ↦ n
     ]

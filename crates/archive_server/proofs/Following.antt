@@ -9,7 +9,7 @@ use Rattle.archive_table.specs.Table.{Table, IsTable, table_request, table_datag
 use Rattle.archive_server.specs.declared.change.Change.{Change}
 use Rattle.archive_server.specs.declared.timer.Timer.{Timer}
 use Rattle.archive_wire.specs.Wire.{Entry, Grows, Replies, Receipt, datagram, nothing, fault}
-use Rattle.archive_server.specs.Timers.{ports_of, live_ports, with_timer, timed, timed_out, HasRoom, Tracks}
+use Rattle.archive_server.specs.Timers.{ports_of, live_ports, new_timer, with_timer, timed, timed_out, HasRoom, Tracks}
 use Rattle.archive_server.specs.Parts.{IsTimeout, Walks}
 use Rattle.archive_server.specs.Turn.{Answers, Visited, transfer_change, transfer_visit, transfer_received, timeout_visit, request_change, request_visit, request_received, request_admitted, request_spared, is_peer, request_used, is_usable, Walk, walk, walk_on}
 use Rattle.archive_wire.proofs.Growing.{grows_none, grows_join}
@@ -28,7 +28,7 @@ transfer_tracks : (closed : Bool) (out : Option Out) (to_peer : Bool) (port : �
     live_ports new ≡ cond closed (remove_port port (live_ports s)) (live_ports s) → (due : ℕ) (timers : List Timer) →
     ports_of timers ≡ live_ports s → ports_of (timed (transfer_change closed out to_peer port) due timers) ≡ live_ports new
 transfer_tracks true out to_peer port s new e due timers same = ports_without port timers ∙ ap (remove_port port) same ∙ sym e
-transfer_tracks false (Some out) true port s new e due timers same = ports_due port due timers ∙ same ∙ sym e
+transfer_tracks false (Some out) true port s new e due timers same = ports_due port due _ timers ∙ same ∙ sym e
 transfer_tracks false (Some out) false port s new e due timers same = same ∙ sym e
 transfer_tracks false None to_peer port s new e due timers same = same ∙ sym e
 
@@ -61,7 +61,7 @@ request_tracks : (opened : Bool) (spare : ℕ) (s new : Table) →
     live_ports new ≡ cond opened (insert_port spare (live_ports s)) (live_ports s) → (due : ℕ) (timers : List Timer) →
     ports_of timers ≡ live_ports s → ports_of (timed (request_change opened spare) due timers) ≡ live_ports new
 request_tracks true spare s new e due timers same =
-    ports_with (record { port = spare; due = due }) timers ∙ ap (insert_port spare) same ∙ sym e
+    ports_with (new_timer spare due) timers ∙ ap (insert_port spare) same ∙ sym e
 request_tracks false spare s new e due timers same = same ∙ sym e
 
 -- if there are at most LIVE ports with a new one, there was a place for its timer
@@ -78,7 +78,7 @@ request_room : (opened : Bool) (spare : ℕ) (s new : Table) →
     live_ports new ≡ cond opened (insert_port spare (live_ports s)) (live_ports s) → (timers : List Timer) →
     ports_of timers ≡ live_ports s → length new.live ≤ LIVE → HasRoom (request_change opened spare) timers
 request_room true spare s new e timers same few =
-    room_counts (record { port = spare; due = 0 }) timers new (request_tracks true spare s new e 0 timers same) few
+    room_counts (new_timer spare 0) timers new (request_tracks true spare s new e 0 timers same) few
 request_room false spare s new e timers same few = tt
 
 used_keeps : (usable : Bool) (spare : ℕ) (a : Answers) (from : _) (bytes : List ℕ) (s : Table) → is_usable spare s ≡ usable → Keeps s (request_used usable spare a.verdict a.replies from bytes s)
@@ -122,8 +122,8 @@ timeout_ports : (closed : Bool) (out : Option Out) (port : ℕ) (s new : Table) 
     live_ports new ≡ cond closed (remove_port port (live_ports s)) (live_ports s) → (due : ℕ) (timers : List Timer) →
     ports_of timers ≡ live_ports s → ports_of (timed_out (transfer_change closed out true port) port due timers) ≡ live_ports new
 timeout_ports true out port s new e due timers same = ports_without port timers ∙ ap (remove_port port) same ∙ sym e
-timeout_ports false (Some out) port s new e due timers same = ports_due port due timers ∙ same ∙ sym e
-timeout_ports false None port s new e due timers same = ports_due port due timers ∙ same ∙ sym e
+timeout_ports false (Some out) port s new e due timers same = ports_due port due _ timers ∙ same ∙ sym e
+timeout_ports false None port s new e due timers same = ports_due port due _ timers ∙ same ∙ sym e
 
 -- a time-out at a port, by what the wire returns
 pub timeout_tracks : (r : Replies) (port : ℕ) (s : Table) (due : ℕ) (timers : List Timer) → ports_of timers ≡ live_ports s →

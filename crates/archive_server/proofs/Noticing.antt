@@ -3,7 +3,7 @@
 use Rattle.std.specs.Prelude.{◌≡◌, ℕ, List}
 use Rattle.std.proofs.Common.{refl, sym, subst}
 use Rattle.archive_server.specs.declared.change.Change.{Change}
-use Rattle.archive_server.specs.declared.change.Change.TheVariants.{Quiet, Nothing, Opened, Sent, Answered, Closed}
+use Rattle.archive_server.specs.declared.change.Change.TheVariants.{Quiet, Nothing, Dropped, Opened, Sent, Answered, Closed}
 use Rattle.archive_server.specs.declared.mode.Mode.{Mode}
 use Rattle.archive_server.specs.declared.mode.Mode.TheVariants.{Turn, Round}
 use Rattle.archive_server.specs.declared.timer.Timer.{Timer}
@@ -13,8 +13,9 @@ use Rattle.archive_server.proofs.Ports.{ports_due}
 room_same : (mode : Mode) (change : Change) (timers : List Timer) → HasRoom change timers → HasRoom (noticed mode change) timers
 room_same mode Quiet timers room = room
 room_same mode Nothing timers room = room
+room_same mode (Dropped host) timers room = room
 room_same mode (Opened port) timers room = room
-room_same mode (Sent port) timers room = room
+room_same mode (Sent port block) timers room = room
 room_same Turn (Answered port) timers room = tt
 room_same (Round now settled policies) (Answered port) timers room = tt
 room_same mode (Closed port) timers room = room
@@ -28,8 +29,9 @@ room_noticed mode change seen timers is room =
 pub ports_noticed : (mode : Mode) (change : Change) (due : ℕ) (timers : List Timer) → ports_of (timed (noticed mode change) due timers) ≡ ports_of (timed change due timers)
 ports_noticed mode Quiet due timers = refl
 ports_noticed mode Nothing due timers = refl
+ports_noticed mode (Dropped host) due timers = refl
 ports_noticed mode (Opened port) due timers = refl
-ports_noticed mode (Sent port) due timers = refl
-ports_noticed Turn (Answered port) due timers = ports_due port due timers
+ports_noticed mode (Sent port block) due timers = refl
+ports_noticed Turn (Answered port) due timers = ports_due port due 0 timers
 ports_noticed (Round now settled policies) (Answered port) due timers = refl
 ports_noticed mode (Closed port) due timers = refl

@@ -1,6 +1,6 @@
 -- Each step of the table keeps the live ports, opens one or closes one; what is done to the timers does the same to
 -- their ports.
-use Rattle.std.specs.Prelude.{◌≡◌, ℕ, ◌+◌, ◌<◌, Bool, true, false, cond, ◌==◌, nat_lt, List, [], ◌∷◌, length, map, None, Some}
+use Rattle.std.specs.Prelude.{◌≡◌, ℕ, ◌+◌, ◌<◌, max, Bool, true, false, cond, ◌==◌, nat_lt, List, [], ◌∷◌, length, map, None, Some}
 use Rattle.std.proofs.Common.{refl, sym, ap, ◌∙◌, inl, inr, arith, eq-eqb, suc}
 use Rattle.std.proofs.lemmas.Bool.{cases_Bool, cases_lt, ne_eqb, ltb-true, lt-ltb}
 use Rattle.std.specs.Cmp.{nat_cmp_is}
@@ -37,8 +37,8 @@ same_cond : {A : Type 0} (b : Bool) (x : A) → cond b x x ≡ x
 same_cond true x = refl
 same_cond false x = refl
 
-abbrev make_timer : (port due : ℕ) → Timer
-make_timer port due = record { port = port; due = due }
+abbrev begun_anew : (due block : ℕ) → Timer → Timer
+begun_anew due block t = record { port = t.port; due = due; first_due = t.first_due; reached = max t.reached block }
 
 -- a new timer adds its port
 pub ports_with : (t : Timer) (ts : List Timer) → ports_of (with_timer t ts) ≡ insert_port t.port (ports_of ts)
@@ -52,16 +52,16 @@ ports_without p [] = refl
 ports_without p (u ∷ us) =
     map_cond ports_of (u.port == p) us (u ∷ without_timer p us) ∙ ap (λ l. cond (u.port == p) (ports_of us) (u.port ∷ l)) (ports_without p us)
 
-port_renewed : (p d : ℕ) (t : Timer) → (renewed p d t).port ≡ t.port
-port_renewed p d t = elim (cases_Bool (t.port == p)) [
-  | inl y ↦ ap (λ (b : Bool). (cond b (make_timer t.port d) t).port) y
-  | inr n ↦ ap (λ (b : Bool). (cond b (make_timer t.port d) t).port) n
+port_renewed : (p d b : ℕ) (t : Timer) → (renewed p d b t).port ≡ t.port
+port_renewed p d b t = elim (cases_Bool (t.port == p)) [
+  | inl y ↦ ap (λ (c : Bool). (cond c (begun_anew d b t) t).port) y
+  | inr n ↦ ap (λ (c : Bool). (cond c (begun_anew d b t) t).port) n
 ]
 
 -- restarting a timer leaves the ports
-pub ports_due : (p d : ℕ) (ts : List Timer) → ports_of (with_due p d ts) ≡ ports_of ts
-ports_due p d [] = refl
-ports_due p d (t ∷ ts) = ap (λ q. q ∷ ports_of (with_due p d ts)) (port_renewed p d t) ∙ ap (λ (l : List ℕ). t.port ∷ l) (ports_due p d ts)
+pub ports_due : (p d b : ℕ) (ts : List Timer) → ports_of (with_due p d b ts) ≡ ports_of ts
+ports_due p d b [] = refl
+ports_due p d b (t ∷ ts) = ap (λ q. q ∷ ports_of (with_due p d b ts)) (port_renewed p d b t) ∙ ap (λ (l : List ℕ). t.port ∷ l) (ports_due p d b ts)
 
 -- counting down leaves the ports
 pub ports_lower : (ts : List Timer) → ports_of (lower ts) ≡ ports_of ts

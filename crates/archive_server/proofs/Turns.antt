@@ -94,11 +94,11 @@ pub turn_in_made : {before mid after : Option (List Entry)} {kept now : Option (
     IsVisit (λ a. next_visit n a s) (λ a. next_asks n a s)
     (λ r. next_admits mode n timers r s) s between taken change before mid kept now →
     after_visit ≡ timers_after mode change timers →
-    Walks (late_ports mode (is_quiet change) after_visit between) (restart mode) between new after_visit left mid after →
+    Walks (late_ports mode change after_visit between) (restart mode) between new after_visit left mid after →
     MakesTurnIn mode n s new timers left taken before after kept now
 turn_in_made {before} {mid} {after} {kept} {now} mode n s between new timers after_visit left taken change visit timers-are walks =
     let v : Visited = next_visit n visit.answers s in
-    let Ends : Change → Table → List Timer → Type 0 = λ c x l. Walks (late_ports mode (is_quiet c) l x) (restart mode) x new l left mid after in
+    let Ends : Change → Table → List Timer → Type 0 = λ c x l. Walks (late_ports mode c l x) (restart mode) x new l left mid after in
     let by_change : Ends change between (timers_after mode change timers) = subst (Ends change between) timers-are walks in
     let by_visit : Ends v.change between (timers_after mode v.change timers) = subst (λ (c : Change). Ends c between (timers_after mode c timers)) visit.change_is by_change in
     let done : Ends v.change v.server (timers_after mode v.change timers) = subst (λ (x : Table). Ends v.change x (timers_after mode v.change timers)) visit.server by_visit in

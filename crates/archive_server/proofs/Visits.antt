@@ -6,7 +6,7 @@ use Rattle.tftp_ends.specs.Ends.{Verdict, granted}
 use Rattle.archive_table.specs.Table.{Table, Maps, Step, Grant, all, Merges, transfer_at, table_request, table_datagram}
 use Rattle.archive_table.specs.Keeper.{Keeping, StepKeeps}
 use Rattle.archive_server.specs.declared.change.Change.{Change}
-use Rattle.archive_server.specs.declared.change.Change.TheVariants.{Quiet, Nothing}
+use Rattle.archive_server.specs.declared.change.Change.TheVariants.{Quiet, Nothing, Dropped}
 use Rattle.archive_server.specs.declared.mode.Mode.{Mode}
 use Rattle.archive_server.specs.declared.mode.Mode.TheVariants.{Turn, Round}
 use Rattle.archive_server.specs.declared.timer.Timer.{Timer}
@@ -212,7 +212,7 @@ request_after {before} {mid} {after} mode timers port from bytes s new taken cha
 pub request_lost : {before after : Option (List Entry)} (mode : Mode) (timers : List Timer) (port : ℕ) (from : Endpoint)
     (bytes : List ℕ) (s : Table) → port ≡ s.request → admits mode timers (datagram from bytes) s ≡ false →
     Grows before after (came port from bytes ∷ []) →
-    IsVisit (λ a. request_visit a s) (λ a. None) (λ r. admits mode timers r s) s s false Nothing before after None None
+    IsVisit (λ a. request_visit a s) (λ a. None) (λ r. admits mode timers r s) s s false (Dropped from.host) before after None None
 request_lost {before} {after} mode timers port from bytes s e kept_out grows =
     record {
       answers = record { receipt = datagram from bytes; admitted = false; spare = None; verdict = granted; grant = all; maps = s.maps; replies = no_replies };

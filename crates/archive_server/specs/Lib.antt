@@ -1,3 +1,4 @@
+pub mod Places
 pub mod Timers
 pub mod Turn
 pub mod Parts

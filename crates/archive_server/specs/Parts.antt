@@ -7,7 +7,7 @@ use Rattle.archive_server.specs.declared.change.Change.{Change}
 use Rattle.archive_server.specs.declared.mode.Mode.{Mode}
 use Rattle.archive_server.specs.declared.next.Next.{Next}
 use Rattle.archive_server.specs.declared.timer.Timer.{Timer}
-use Rattle.archive_wire.specs.Wire.{Entry, Grows, Replies, Receipt, sendings}
+use Rattle.archive_wire.specs.Wire.{Entry, Grows, Replies, Receipt}
 use Rattle.archive_server.specs.Turn.{Answers, Visited, Asks, KeepsAsked, IsTurnIn, step_calls, walk}
 
 -- A visit does what its definition says for some answers, and the log has grown by its calls.

@@ -2,7 +2,7 @@
 -- one. A *round* waits until a port is ready, and visits that one. After a visit the ports that are due time out. Defined is
 -- which calls of the wire they make, in which order, and which steps of the table. What the wire returns is an argument, and
 -- so is what the steps are granted.
-use Rattle.std.specs.Prelude.{◌≡◌, ℕ, ◌==◌, ◌&&◌, ◌||◌, not, nat_lt, Bool, true, false, ◌+◌, ◌/◌, ◌^◌, List, [], ◌∷◌, ◌++◌, map, fold, count_by, Option, None, Some, is_some, option_map, unwrap_or, Result, Ok, Err}
+use Rattle.std.specs.Prelude.{◌≡◌, ℕ, ◌==◌, ◌&&◌, not, Bool, true, false, ◌+◌, List, [], ◌∷◌, ◌++◌, map, fold, Option, None, Some, is_some, option_map, unwrap_or, Result, Ok, Err}
 use Rattle.std.specs.List.{list_any}
 use Rattle.tftp_packet.specs.declared.endpoint.Endpoint.{Endpoint}
 use Rattle.tftp_packet.specs.declared.out.Out.{Out}
@@ -14,7 +14,7 @@ use Rattle.archive_table.specs.Table.{Table, Maps, Taken, TableAnswer, Grant, al
 use Rattle.archive_table.specs.declared.limits.TheConstants.{LIVE}
 use Rattle.archive_table.specs.Keeper.{Keeping, StepKeeps}
 use Rattle.archive_server.specs.declared.change.Change.{Change}
-use Rattle.archive_server.specs.declared.change.Change.TheVariants.{Quiet, Nothing, Opened, Sent, Answered, Closed}
+use Rattle.archive_server.specs.declared.change.Change.TheVariants.{Quiet, Nothing, Dropped, Opened, Sent, Answered, Closed}
 use Rattle.archive_server.specs.declared.mode.Mode.{Mode}
 use Rattle.archive_server.specs.declared.mode.Mode.TheVariants.{Turn, Round}
 use Rattle.archive_server.specs.declared.next.Next.{Next}
@@ -23,8 +23,9 @@ use Rattle.archive_server.specs.declared.policies.Policies.{Policies}
 use Rattle.archive_server.specs.declared.putters.Putters.{Putters}
 use Rattle.archive_server.specs.declared.putters.Putters.TheVariants.{All, Hosts}
 use Rattle.archive_server.specs.declared.timer.Timer.{Timer}
-use Rattle.archive_server.specs.Timers.{timed_out, timers_after, is_quiet, late_ports, restart, earliest}
-use Rattle.archive_wire.specs.Wire.{Entry, opened, closed, came, quiet, failed, sent, waited, Grows, Replies, Receipt, datagram, nothing, fault, sendings}
+use Rattle.archive_server.specs.Places.{has_room}
+use Rattle.archive_server.specs.Timers.{timed_out, timers_after, late_ports, restart, earliest}
+use Rattle.archive_wire.specs.Wire.{Entry, opened, closed, came, quiet, failed, waited, Grows, Replies, Receipt, datagram, nothing, fault, sendings}
 
 -- ---- what is returned and granted
 
@@ -63,14 +64,23 @@ pub record Visited : Type 0 where
 
 -- ---- a transfer's port
 
+-- the number of the block that a datagram has or acknowledges, or 0
+abbrev pub block_in : Result Packet PacketFault → ℕ
+block_in (Ok (read name mode)) = 0
+block_in (Ok (write name mode)) = 0
+block_in (Ok (data_block n body)) = n
+block_in (Ok (ack n)) = n
+block_in (Ok (error code text)) = 0
+block_in (Err e) = 0
+
 -- by whether the step answers its peer
-abbrev pub sent_change : (to_peer : Bool) → (port : ℕ) → Change
-sent_change true port = Sent port
-sent_change false port = Answered port
+abbrev pub sent_change : (to_peer : Bool) → (port block : ℕ) → Change
+sent_change true port block = Sent port block
+sent_change false port block = Answered port
 
 abbrev pub transfer_change : (closed : Bool) → Option Out → (to_peer : Bool) → (port : ℕ) → Change
 transfer_change true out to_peer port = Closed port
-transfer_change false (Some out) to_peer port = sent_change to_peer port
+transfer_change false (Some out) to_peer port = sent_change to_peer port (block_in (decode_bytes out.dgram))
 transfer_change false None to_peer port = Nothing
 
 abbrev pub transfer_stepped : (port : ℕ) → (to_peer : Bool) → Replies → (before : List Entry) → TableAnswer → Visited
@@ -142,10 +152,14 @@ request_spared None verdict replies from bytes s = lost_visit (opened None ∷ [
 abbrev pub preceded : Entry → Visited → Visited
 preceded call v = record { server = v.server; taken = v.taken; change = v.change; calls = call ∷ v.calls }
 
+-- the datagram of this host is lost, since it is not let in
+abbrev pub dropped_visit : (host : ℕ) → Table → Visited
+dropped_visit host s = record { server = s; taken = None; change = Dropped host; calls = [] }
+
 -- A datagram that is not let in is lost.
 abbrev pub request_admitted : (admitted : Bool) → Answers → (from : Endpoint) (bytes : List ℕ) → Table → Visited
 request_admitted true a from bytes s = request_spared a.spare a.verdict a.replies from bytes s
-request_admitted false a from bytes s = lost_visit [] s
+request_admitted false a from bytes s = dropped_visit from.host s
 
 abbrev pub request_received : Receipt → Answers → Table → Visited
 request_received (datagram from bytes) a s =
@@ -215,18 +229,6 @@ walk_after mode v late timers = walk (restart mode) v.server (timers_after mode 
 
 -- ---- what is let in
 
--- the loopback range is this host's own
-abbrev pub is_loopback : (host : ℕ) → Bool
-is_loopback host = host / 2 ^ 24 == 127
-
-abbrev pub is_from : (host : ℕ) → Option Endpoint → Bool
-is_from host None = false
-is_from host (Some peer) = peer.host == host
-
--- how many transfers are with a host
-abbrev pub count_from : (host : ℕ) → List Timer → Table → ℕ
-count_from host timers s = count_by (λ t. is_from host (peer_at t.port s)) timers
-
 -- a list names a host unless it is 0
 abbrev pub may_put : (host : ℕ) → Putters → Bool
 may_put host All = true
@@ -242,11 +244,11 @@ may_ask putters host (Ok (error code text)) = false
 may_ask putters host (Err e) = false
 
 -- A round lets in only requests, a put only from a host that may put, and only from a host that has fewer transfers than it
--- may have.
+-- may have, apart from those that dally.
 abbrev pub admits : Mode → List Timer → Receipt → Table → Bool
 admits Turn timers receipt s = true
 admits (Round now settled policies) timers (datagram from bytes) s =
-    may_ask policies.putters from.host (decode_bytes bytes) && (is_loopback from.host || nat_lt (count_from from.host timers s) policies.per_host)
+    may_ask policies.putters from.host (decode_bytes bytes) && has_room from.host policies.per_host timers s
 admits (Round now settled policies) timers nothing s = true
 admits (Round now settled policies) timers fault s = true
 
@@ -263,7 +265,7 @@ pub record IsTurnIn (mode : Mode) (next : Next) (old new : Table) (timers left :
   pub answers : Answers
   pub admitted : answers.admitted ≡ next_admits mode next timers answers.receipt old
   pub late : List (ℕ × Replies)
-  pub late_are : map (λ e. e.0) late ≡ late_ports mode (is_quiet (next_visit next answers old).change) (timers_after mode (next_visit next answers old).change timers) (next_visit next answers old).server
+  pub late_are : map (λ e. e.0) late ≡ late_ports mode (next_visit next answers old).change (timers_after mode (next_visit next answers old).change timers) (next_visit next answers old).server
   pub table : new ≡ (walk_after mode (next_visit next answers old) late timers).server
   pub timers_are : left ≡ (walk_after mode (next_visit next answers old) late timers).timers
   pub calls_are : calls ≡ (next_visit next answers old).calls ++ (walk_after mode (next_visit next answers old) late timers).calls

@@ -10,10 +10,12 @@ pub(crate) enum Change {
     Quiet,
     /// No port was opened or closed, and none of the transfers sent.
     Nothing,
+    /// A datagram of this host at the request port was not let in.
+    Dropped(u32),
     /// A transfer was opened on this port.
     Opened(u16),
-    /// A step at this port sent a datagram to its peer.
-    Sent(u16),
+    /// A step at this port sent a datagram to its peer, which has or acknowledges the block of this number.
+    Sent(u16, u16),
     /// A step at this port answered a stranger.
     Answered(u16),
     /// The transfer at this port has ended.
@@ -28,8 +30,9 @@ impl Change {
         match self {
             Change::Quiet => true,
             Change::Nothing => false,
+            Change::Dropped(_) => false,
             Change::Opened(_) => false,
-            Change::Sent(_) => false,
+            Change::Sent(_, _) => false,
             Change::Answered(_) => false,
             Change::Closed(_) => false,
         }

@@ -9,6 +9,7 @@ mod drop_cause;
 mod limits;
 mod mode;
 mod next;
+mod places;
 mod policies;
 mod putters;
 mod serve;

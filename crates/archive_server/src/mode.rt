@@ -56,7 +56,7 @@ impl Mode {
         ensures { result ≡ noticed self change }
     {
         match (self, change) {
-            (Mode::Turn, Change::Answered(port)) => Change::Sent(port),
+            (Mode::Turn, Change::Answered(port)) => Change::Sent(port, 0),
             (Mode::Round { .. }, Change::Answered(_)) => Change::Nothing,
             (_, change) => change,
         }

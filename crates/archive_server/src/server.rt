@@ -203,8 +203,10 @@ impl<A: Allocator + Copy> Server<A> {
     /// Makes one round: waits for a ready port, visits it as a turn does, and lets transfers time out. Returns whether a
     /// file was taken.
     ///
-    /// A datagram at the request port that is not a request, or that the policies do not let in, opens no port. A transfer times out `TIMEOUT` milliseconds after it was opened or last sent to its
-    /// peer, once all that had arrived by then was handed out. One that dallies gives way when `LIVE` transfers are live.
+    /// A datagram at the request port that is not a request, or that the policies do not let in, opens no port. A transfer
+    /// times out `TIMEOUT` milliseconds after it was opened or last sent to its peer, once all that had arrived by then was
+    /// handed out. When `LIVE` transfers are live, those that dally give way, or else the slowest one does; if a host asks for
+    /// more than it may have, its slowest does.
     ///
     /// The observer is notified of each step, time-outs too, after the step's calls of the wire, and of each request that is
     /// dropped. It changes nothing.

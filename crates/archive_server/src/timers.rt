@@ -1,19 +1,17 @@
 //! The timers of all live ports.
 
-ghost use Rattle.std.specs.Prelude.{◌≡◌, ℕ, ◌<◌, ◌≤◌, [], ◌++◌, length, map, take, drop, IfSome, IfNone};
+ghost use Rattle.std.specs.Prelude.{◌≡◌, ℕ, ◌<◌, ◌≤◌, ◌*◌, [], ◌++◌, length, map, take, drop, IfSome, IfNone};
 ghost use Rattle.std.specs.List.{insert, remove};
-ghost use Rattle.archive_server.specs.Timers.{with_timer, without_timer, with_due, renewed, lower, lowered, giving_ports, late_ports, is_due as due_at, gives_way as way_given, is_quiet, timed, timed_out, timers_after, restart, earlier, earliest, HasRoom};
-ghost use Rattle.archive_server.specs.Turn.{is_from as from_host, count_from};
+ghost use Rattle.archive_server.specs.Timers.{with_timer, without_timer, with_due, renewed, lower, lowered, giving_ports, victim_ports, late_ports, new_timer, is_due as due_at, gives_way as way_given, is_quiet, timed, timed_out, timers_after, restart, earlier, earliest, HasRoom};
 
 use crate::change::Change;
-use crate::limits::LATE;
+use crate::limits::{ALL_MISSES, LATE};
 use crate::mode::Mode;
 use crate::timer::Timer;
 use archive_table::{LIVE, Table};
 use arrayvec::ArrayVec;
 use std::alloc::Allocator;
 use std::marker::Model;
-use tftp_packet::Endpoint;
 
 /// A timer for each live port, in the order of the ports. They are in a fixed row of `LIVE` places and allocate
 /// nothing.
@@ -34,7 +32,7 @@ impl Model for Timers {
 // The place in the row for a timer of this port.
 fn place_for(row: &[Timer], port: u16) -> usize
     ensures within { result ≤ length row.now }
-    ensures place { (due : ℕ) → with_timer (record { port = port; due = due }) row.now ≡ insert row.now result (record { port = port; due = due }) }
+    ensures place { (due : ℕ) → with_timer (new_timer port due) row.now ≡ insert row.now result (new_timer port due) }
 {
     for (i, timer) in row.iter().enumerate() {
         if timer.port >= port {
@@ -58,12 +56,29 @@ fn place_of(row: &[Timer], port: u16) -> Option<usize>
     None
 }
 
+// The timer of a transfer that was just opened.
+fn opened(port: u16, due: u64) -> Timer
+    ensures { result ≡ new_timer port due }
+{
+    Timer {
+        port,
+        due,
+        first_due: due,
+        reached: 0,
+    }
+}
+
 // A timer, restarted if it is that of the port.
-fn begun_anew(timer: Timer, port: u16, due: u64) -> Timer
-    ensures { result ≡ renewed port due timer }
+fn begun_anew(timer: Timer, port: u16, due: u64, block: u16) -> Timer
+    ensures { result ≡ renewed port due block timer }
 {
     if timer.port == port {
-        Timer { port, due }
+        Timer {
+            port: timer.port,
+            due,
+            first_due: timer.first_due,
+            reached: timer.reached.max(block),
+        }
     } else {
         timer
     }
@@ -76,15 +91,17 @@ fn one_less(timer: Timer) -> Timer
     Timer {
         port: timer.port,
         due: timer.due.saturating_sub(1),
+        first_due: timer.first_due,
+        reached: timer.reached,
     }
 }
 
 // Restarts the timer of a port.
-fn renew_in(row: &mut [Timer], port: u16, due: u64)
-    ensures { row.new ≡ map (renewed port due) row.old }
+fn renew_in(row: &mut [Timer], port: u16, due: u64, block: u16)
+    ensures { row.new ≡ map (renewed port due block) row.old }
 {
     for timer in row.iter_mut() {
-        *timer = begun_anew(*timer, port, due);
+        *timer = begun_anew(*timer, port, due, block);
     }
 }
 
@@ -127,13 +144,17 @@ fn gives_way<A: Allocator + Copy>(mode: Mode, port: u16, table: &Table<A>) -> bo
     }
 }
 
-// Whether a peer is on this host.
-fn is_from(host: u32, peer: Option<Endpoint>) -> bool
-    ensures { result ≡ from_host host peer }
+// Appends the time-outs of the port that gives way since places have run out.
+fn push_victim(victim: Option<u16>, ports: &mut ArrayVec<u16, LATE>)
+    requires room { length ports.old.items ≤ 2 * LIVE }
+    ensures { ports.new.items ≡ ports.old.items ++ victim_ports victim }
 {
-    match peer {
-        None => false,
-        Some(peer) => peer.host == host,
+    let Some(port) = victim else {
+        return;
+    };
+    match ports.try_extend_from_slice(&[port; ALL_MISSES]) {
+        Ok(()) => {}
+        Err(_) => {}
     }
 }
 
@@ -165,12 +186,12 @@ impl Timers {
         ensures { self.new ≡ timed change due self.old }
     {
         match change {
-            Change::Quiet | Change::Nothing | Change::Answered(_) => {}
+            Change::Quiet | Change::Nothing | Change::Dropped(_) | Change::Answered(_) => {}
             Change::Opened(port) => {
                 let place = place_for(self.row.as_slice(), port);
-                self.row.insert(place, Timer { port, due });
+                self.row.insert(place, opened(port, due));
             }
-            Change::Sent(port) => self.renew(port, due),
+            Change::Sent(port, block) => self.renew(port, due, block),
             Change::Closed(port) => self.remove(port),
         }
     }
@@ -183,19 +204,20 @@ impl Timers {
             Change::Closed(port) => self.remove(port),
             Change::Quiet
             | Change::Nothing
+            | Change::Dropped(_)
             | Change::Opened(_)
-            | Change::Sent(_)
+            | Change::Sent(_, _)
             | Change::Answered(_) => {
-                self.renew(port, mode.restart());
+                self.renew(port, mode.restart(), 0);
             }
         }
     }
 
-    // Restarts the timer of a port.
-    fn renew(&mut self, port: u16, due: u64)
-        ensures { self.new ≡ with_due port due self.old }
+    // Restarts the timer of a port, whose transfer has reached this block.
+    fn renew(&mut self, port: u16, due: u64, block: u16)
+        ensures { self.new ≡ with_due port due block self.old }
     {
-        renew_in(self.row.as_mut_slice(), port, due);
+        renew_in(self.row.as_mut_slice(), port, due, block);
     }
 
     // Removes the timer of a port.
@@ -214,15 +236,15 @@ impl Timers {
         lower_in(self.row.as_mut_slice());
     }
 
-    /// The ports that time out after a visit, in order: those that are due or give way, and once more those that give
-    /// way.
+    /// The ports that time out after a visit, in order: those that are due or give way since they dally, once more those that
+    /// dally, and the one that gives way since places have run out.
     pub(crate) fn late<A: Allocator + Copy>(
         &self,
         mode: Mode,
         change: Change,
         table: &Table<A>,
     ) -> ArrayVec<u16, LATE>
-        ensures { result.items ≡ late_ports mode (is_quiet change) self.now table.now }
+        ensures { result.items ≡ late_ports mode change self.now table.now }
     {
         let by = mode.due_by(change);
         let mut ports = ArrayVec::new();
@@ -232,6 +254,7 @@ impl Timers {
             }
         }
         self.push_giving(mode, table, &mut ports);
+        push_victim(self.victim(mode, change, table), &mut ports);
         ports
     }
 
@@ -243,7 +266,8 @@ impl Timers {
         ports: &mut ArrayVec<u16, LATE>,
     )
         requires room { length ports.old.items ≤ LIVE }
-        ensures { ports.new.items ≡ ports.old.items ++ giving_ports mode self.now table.now }
+        ensures giving { ports.new.items ≡ ports.old.items ++ giving_ports mode self.now table.now }
+        ensures few { length ports.new.items ≤ 2 * LIVE }
     {
         for timer in self.row.as_slice() {
             if gives_way(mode, timer.port, table) {
@@ -252,15 +276,12 @@ impl Timers {
         }
     }
 
-    /// How many transfers are with this host.
-    pub(crate) fn count_from<A: Allocator + Copy>(&self, host: u32, table: &Table<A>) -> usize
-        ensures { result ≡ count_from host self.now table.now }
+    /// The timers, in the order of the ports.
+    pub(crate) fn as_slice(&self) -> &[Timer]
+        ensures value { result.now ≡ self.now }
+        ensures few { length result.now ≤ LIVE }
     {
-        let timers = self.row.as_slice();
-        timers
-            .iter()
-            .filter(|timer| is_from(host, table.peer(timer.port)))
-            .count()
+        self.row.as_slice()
     }
 
     /// The earliest time at which a port is due, if there is a port.

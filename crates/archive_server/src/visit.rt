@@ -1,12 +1,12 @@
 //! One visit to a port, and one time-out at a port, on the table only.
 
-ghost use Rattle.std.specs.Prelude.{◌≡◌, ◌≢◌, ◌||◌, nat_lt, not, is_some, true, None, Some};
+ghost use Rattle.std.specs.Prelude.{◌≡◌, ◌≢◌, not, is_some, true, None, Some};
 ghost use Rattle.tftp_packet.specs.Decode.{decode_bytes};
 ghost use Rattle.archive_table.specs.Table.{IsTable, transfer_at};
 ghost use Rattle.archive_server.specs.Timers.{ports_of, live_ports, is_quiet, late_ports, restart, HasGivenWay, Tracks};
 ghost use Rattle.archive_server.specs.Parts.{IsVisit, IsTimeout, Acts, Walks};
 ghost use Rattle.archive_wire.specs.Wire.{SendsOut, datagram};
-ghost use Rattle.archive_server.specs.Turn.{transfer_visit, transfer_asks, timeout_visit, request_visit, request_spared, request_change, transfer_change, admits, may_ask, count_from, is_loopback, is_peer as peer_is, is_usable as usable_at};
+ghost use Rattle.archive_server.specs.Turn.{transfer_visit, transfer_asks, timeout_visit, request_visit, request_spared, request_change, transfer_change, admits, may_ask, block_in, sent_change as change_sent, is_peer as peer_is, is_usable as usable_at};
 
 use crate::change::Change;
 use crate::drop_cause::DropCause;
@@ -57,18 +57,41 @@ fn act<W: Wire>(wire: &mut W, closes: bool, port: u16, out: &Option<Out>)
     close(wire, closes, port);
 }
 
+// The number of the block that a datagram has or acknowledges, or 0.
+fn block_in(out: &Out) -> u16
+    ensures { result ≡ block_in (decode_bytes out.now.dgram) }
+{
+    match decode(out.dgram.bytes()) {
+        Ok(Packet::Read { .. }) => 0,
+        Ok(Packet::Write { .. }) => 0,
+        Ok(Packet::Data { block, .. }) => block,
+        Ok(Packet::Ack { block }) => block,
+        Ok(Packet::Error { .. }) => 0,
+        Err(_) => 0,
+    }
+}
+
+// The change of a step that sent this datagram.
+fn sent_change(port: u16, to_peer: bool, out: &Out) -> Change
+    ensures { result ≡ change_sent to_peer port (block_in (decode_bytes out.now.dgram)) }
+{
+    if to_peer {
+        Change::Sent(port, block_in(out))
+    } else {
+        Change::Answered(port)
+    }
+}
+
 // What a step at a transfer's port changed for the live ports.
 fn change_at<A: Allocator>(port: u16, to_peer: bool, step: &Step<A>) -> Change
     ensures { result ≡ transfer_change step.now.closed step.now.out to_peer port }
 {
     if step.closed {
-        Change::Closed(port)
-    } else if step.out.is_none() {
-        Change::Nothing
-    } else if to_peer {
-        Change::Sent(port)
-    } else {
-        Change::Answered(port)
+        return Change::Closed(port);
+    }
+    match &step.out {
+        None => Change::Nothing,
+        Some(out) => sent_change(port, to_peer, out),
     }
 }
 
@@ -181,18 +204,6 @@ fn is_request(bytes: &[u8]) -> bool
     may_ask(&Putters::All, 0, bytes)
 }
 
-// Whether a host may have one more transfer. This host's own clients are not counted.
-fn has_room_for<A: Allocator + Copy>(
-    table: &Table<A>,
-    timers: &Timers,
-    host: u32,
-    per_host: usize,
-) -> bool
-    ensures { result ≡ (is_loopback host || nat_lt (count_from host timers.now table.now) per_host) }
-{
-    host >> 24 == 127 || timers.count_from(host, table) < per_host
-}
-
 // Whether a datagram at the request port is let in.
 fn is_admitted<A: Allocator + Copy>(
     table: &Table<A>,
@@ -207,7 +218,7 @@ fn is_admitted<A: Allocator + Copy>(
         Mode::Turn => true,
         Mode::Round { policies, .. } => {
             may_ask(&policies.putters, from.host, bytes)
-                && has_room_for(table, timers, from.host, policies.per_host)
+                && timers.has_room(from.host, policies.per_host, table)
         }
     }
 }
@@ -230,7 +241,10 @@ pub(crate) fn visit_request<A: Allocator + Copy, W: Wire, O: ServerObserver>(
                 answer_request(table, wire, observer, from, &buffer[..count])
             } else {
                 observe_drop(observer, mode, from, &buffer[..count]);
-                Visit::LOST
+                Visit {
+                    taken: false,
+                    change: Change::Dropped(from.host),
+                }
             }
         }
         Ok(None) => Visit::QUIET,
@@ -297,7 +311,7 @@ pub(crate) fn time_out_late<A: Allocator + Copy, W: Wire, O: Observer>(
 )
     requires fits { IsTable table.old }
     requires tracks { ports_of timers.old ≡ live_ports table.old }
-    ensures walks { Walks (late_ports mode (is_quiet change) timers.old table.old) (restart mode) table.old table.new timers.old timers.new (W.calls wire.old) (W.calls wire.new) }
+    ensures walks { Walks (late_ports mode change timers.old table.old) (restart mode) table.old table.new timers.old timers.new (W.calls wire.old) (W.calls wire.new) }
     ensures keeps { Tracks table.new timers.new }
     ensures given_way { HasGivenWay mode table.new }
 {

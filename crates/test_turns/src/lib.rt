@@ -4,6 +4,8 @@
 #[cfg(test)]
 mod crossing;
 #[cfg(test)]
+mod giving;
+#[cfg(test)]
 mod keeping;
 #[cfg(test)]
 mod observing;

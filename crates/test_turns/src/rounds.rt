@@ -128,7 +128,7 @@ fn ports_that_are_ready(rt: HostRuntime) -> Result<(), Fail> {
 }
 
 // The 66 ports from 4000 on.
-fn many_ports() -> [u16; 66] {
+pub(crate) fn many_ports() -> [u16; 66] {
     let mut ports = [0; 66];
     let mut next = 4000_u16;
     for port in ports.iter_mut() {
@@ -139,7 +139,7 @@ fn many_ports() -> [u16; 66] {
 }
 
 // Makes the round of a request to write a file, which comes from a host of its own.
-fn ask(
+pub(crate) fn ask(
     alloc: Global,
     wire: &mut MemoryWire,
     server: &mut Server,

@@ -4,4 +4,4 @@ use Rattle.archive_server.proofs.timers.renew_in.Given as goal
 
 abbrev pub invariant-loop-timer : goal.invariant-loop-timer
 invariant-loop-timer l =
-    l.row ≡ map (renewed l.port l.due) (take l.timer-index l.initial.row) ++ drop l.timer-index l.initial.row
+    l.row ≡ map (renewed l.port l.due l.block) (take l.timer-index l.initial.row) ++ drop l.timer-index l.initial.row

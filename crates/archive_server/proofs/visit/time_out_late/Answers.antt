@@ -1,5 +1,4 @@
 use Rattle.std.proofs.Common.{◌∙◌}
-use Rattle.archive_server.specs.Timers.{is_quiet}
 use Rattle.archive_server.proofs.Following.{walks_none, walks_at, tracks_at}
 use Rattle.archive_server.proofs.Dallying.{falls_none, falls_at, has_given_way}
 use Rattle.archive_server.proofs.visit.time_out_late.Goals as goal
@@ -13,6 +12,6 @@ loop-port-preserved g c =
 
 pub returns-clause-given_way : goal.returns-clause-given_way
 returns-clause-given_way g c =
-    has_given_way c.args.mode (is_quiet c.args.change) c.args.timers.now c.args.table.now c.loop-port.table c.as_slice-port-items.result.now c.loop-port.port-index
+    has_given_way c.args.mode c.args.change c.args.timers.now c.args.table.now c.loop-port.table c.as_slice-port-items.result.now c.loop-port.port-index
     (record { fits = c.requires.fits; tracks = c.requires.tracks }) c.loop-port.invariant.1.fits
     c.loop-port-test.false (c.as_slice-port-items.ensures.value ∙ c.late-ports.ensures) c.loop-port.invariant.2
