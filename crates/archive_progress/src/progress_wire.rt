@@ -1,6 +1,6 @@
 //! A wire that shows the progress of the transfer over it.
 
-ghost use Rattle.std.specs.Prelude.{◌≡◌, ◌≤◌, [], ◌∷◌, max, true, None, Some, is_some, OnErr, IfErr, IfOk, IfSome};
+ghost use Rattle.std.specs.Prelude.{◌≡◌, ◌≤◌, [], ◌∷◌, max, true, None, is_some, OnErr, IfErr, IfOk, IfSome};
 ghost use Rattle.tftp_packet.specs.Decode.{decode_bytes};
 ghost use Rattle.byte_output.specs.Failures.{Rises};
 ghost use Rattle.archive_wire.specs.Wire.{Grows, opened, closed, received, sent, waited, port_opened, was_done};
@@ -46,13 +46,14 @@ impl<N: ReadyWire, W: Write> ProgressWire<N, W> {
         &self.wire
     }
 
-    /// Sets the length in bytes of the file that is to be sent.
-    pub fn set_length(&mut self, length: u64)
+    /// The next transfer begins: nothing is counted of it yet. The length in bytes of its file is that of a put; a get does
+    /// not know it.
+    pub fn begin(&mut self, length: Option<u64>)
         ensures wire { self.new.wire ≡ self.old.wire }
-        ensures tally { self.new.tally ≡ record self.old.tally { length = Some length } }
+        ensures tally { self.new.tally ≡ record new_tally { length = length; drawn = self.old.tally.drawn } }
         ensures terminal { self.new.terminal ≡ self.old.terminal }
     {
-        self.tally.set_length(length);
+        self.tally.begin(length);
     }
 
     // Draws the line if that is due at this time.

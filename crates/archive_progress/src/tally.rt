@@ -1,6 +1,6 @@
 //! What is counted of a transfer.
 
-ghost use Rattle.std.specs.Prelude.{◌≡◌, ◌-◌, max, true, Some, is_some};
+ghost use Rattle.std.specs.Prelude.{◌≡◌, ◌-◌, max, true, is_some};
 ghost use Rattle.tftp_packet.specs.Decode.{decode_bytes};
 ghost use Rattle.archive_progress.specs.Tally.{acknowledged, beginning, due_at, is_due, updated, may_draw, new_tally, progress_at};
 
@@ -61,11 +61,15 @@ impl Tally {
         }
     }
 
-    /// Sets the length in bytes of the file of the transfer.
-    pub(crate) fn set_length(&mut self, length: u64)
-        ensures { self.new ≡ record self.old { length = Some length } }
+    /// The next transfer begins, of a file of this length in bytes if that is known. A line that was drawn is to be erased
+    /// all the same.
+    pub(crate) fn begin(&mut self, length: Option<u64>)
+        ensures { self.new ≡ record new_tally { length = length; drawn = self.old.drawn } }
     {
-        self.length = Some(length);
+        let drawn = self.drawn;
+        *self = Tally::new();
+        self.length = length;
+        self.drawn = drawn;
     }
 
     /// Counts what is known from a datagram of these bytes that the client sends: with a DATA the blocks before it were

@@ -1,4 +1,5 @@
--- What two archives have of a ruleset, fetched over a wire: two gets, one after the other; and a put of what is better.
+-- What two archives, or a text and an archive, have of a ruleset, fetched over a wire by a get of each collection; and a put
+-- of what is better.
 use Rattle.std.specs.Prelude.{◌≡◌, ℕ, List, [], Option, None, Some, Result, Ok, Err}
 use Rattle.tws_file.specs.declared.«ruleset».Ruleset.{Ruleset}
 use Rattle.tftp_packet.specs.declared.endpoint.Endpoint.{Endpoint}
@@ -66,6 +67,23 @@ pub record BothFail (from to : Endpoint) (asked : Asked) (fault : NewsFault) (be
   pub second : List ℕ
   pub both : FetchesBoth from to asked first second before after
   pub fails : NewsFails first second fault
+
+-- the collection of an archive was fetched, and this is what a text of mine and it tell
+pub record FetchesNewsOf (mine : List ℕ) (to : Endpoint) (asked : Asked) (told : Told) (before after : Option (List Entry)) : Type 0 where
+  pub theirs : List ℕ
+  pub fetched : FetchesText to asked theirs before after
+  pub is_told : IsTold mine theirs told
+
+-- it was fetched, and cannot be compared
+pub record FetchedFails (mine : List ℕ) (to : Endpoint) (asked : Asked) (fault : NewsFault) (before after : Option (List Entry)) : Type 0 where
+  pub theirs : List ℕ
+  pub fetched : FetchesText to asked theirs before after
+  pub fails : NewsFails mine theirs fault
+
+abbrev pub NewsOfFails : (mine : List ℕ) (to : Endpoint) → Asked → SyncFault → (before after : Option (List Entry)) → Type 0
+NewsOfFails mine to asked (From fault) before after = ⊥
+NewsOfFails mine to asked (To fault) before after = TextFails to asked fault before after
+NewsOfFails mine to asked (News fault) before after = FetchedFails mine to asked fault before after
 
 abbrev pub SyncFails : (from to : Endpoint) → Asked → SyncFault → (before after : Option (List Entry)) → Type 0
 SyncFails from to asked (From fault) before after = TextFails from asked fault before after

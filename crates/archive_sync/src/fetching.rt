@@ -1,7 +1,7 @@
 //! Fetching collections into memory.
 
 ghost use Rattle.std.specs.Prelude.{◌≡◌, IfOk, IfErr};
-ghost use Rattle.archive_sync.specs.Fetching.{FetchesText, TextFails, FetchesNews, SyncFails, in_memory};
+ghost use Rattle.archive_sync.specs.Fetching.{FetchesText, TextFails, FetchesNews, FetchesNewsOf, NewsOfFails, SyncFails, in_memory};
 
 use crate::news::News;
 use crate::sync_fault::SyncFault;
@@ -74,6 +74,32 @@ pub fn fetch_news<A: Allocator + Copy, W: ReadyWire>(
         Err(fault) => return Err(SyncFault::To(fault)),
     };
     match News::between(alloc, &first, &second) {
+        Ok(news) => Ok(news),
+        Err(fault) => Err(SyncFault::News(fault)),
+    }
+}
+
+/// Fetches the collection of a ruleset of an archive, `to`, and compares a text of mine with it.
+///
+/// # Errors
+///
+/// `To` if it was not fetched, and `News` if the two cannot be compared, of which the text is the first; never `From`.
+pub fn fetch_news_of<A: Allocator + Copy, W: ReadyWire>(
+    alloc: A,
+    wire: &mut W,
+    text: &[u8],
+    to: Endpoint,
+    ruleset: Ruleset,
+    rounds: u64,
+) -> Result<News<A>, SyncFault>
+    ensures fetched { IfOk result (λ told. FetchesNewsOf text.now to (record { rules = «ruleset»; rounds = rounds }) told (W.calls wire.old) (W.calls wire.new)) }
+    ensures fails { IfErr result (λ fault. NewsOfFails text.now to (record { rules = «ruleset»; rounds = rounds }) fault (W.calls wire.old) (W.calls wire.new)) }
+{
+    let theirs = match fetch_text(alloc, wire, to, ruleset, rounds) {
+        Ok(theirs) => theirs,
+        Err(fault) => return Err(SyncFault::To(fault)),
+    };
+    match News::between(alloc, text, &theirs) {
         Ok(news) => Ok(news),
         Err(fault) => Err(SyncFault::News(fault)),
     }

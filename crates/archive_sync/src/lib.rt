@@ -1,4 +1,5 @@
-//! What two archives have of a ruleset, fetched over any wire, and what of it is better than what the other one has.
+//! What two archives, or a file and an archive, have of a ruleset, fetched over any wire, and what of it is better than what
+//! the other one has.
 //!
 //! Read `specs/News.antt` first, then `specs/Fetching.antt`. README.md shows how the crate is called.
 #![tactic(auto)]
@@ -10,7 +11,7 @@ mod planning;
 mod sending;
 mod sync_fault;
 
-pub use fetching::{fetch_news, fetch_text};
+pub use fetching::{fetch_news, fetch_news_of, fetch_text};
 pub use news::News;
 pub use news_fault::NewsFault;
 pub use planning::plan;
