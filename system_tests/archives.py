@@ -16,6 +16,7 @@ import sys
 import threading
 import time
 from concurrent.futures import ThreadPoolExecutor
+from pathlib import Path
 
 PROGRAM, FOLDER = os.path.abspath(sys.argv[1]), sys.argv[2]
 SEED = int(os.environ.get("SEED", "1"))
@@ -313,6 +314,11 @@ def carried(one, other):
     check(f"rsync: {ran.stderr}", ran.returncode in (0, 24))
 
 
+def recorded(archive):
+    """The names of the files of a history, from its folder on."""
+    return sorted(str(path.relative_to(archive.history)) for path in Path(archive.history).glob("20*/*.tws"))
+
+
 def two_histories():
     if not shutil.which("rsync"):
         return
@@ -330,9 +336,9 @@ def two_histories():
     for rules in "lynx", "ms":
         wanted = best(rules, files.sent[rules])
         for archive in one, other:
-            there = [os.path.join(archive.history, name) for name in os.listdir(archive.history) if f"-{rules}" in name and name.endswith(".tws")]
+            there = [os.path.join(archive.history, name) for name in recorded(archive) if f"-{rules}" in name]
             check(f"{rules} of the history of {archive.name}", best(rules, there) == wanted)
-    names = [sorted(os.listdir(archive.history)) for archive in (one, other)]
+    names = [recorded(archive) for archive in (one, other)]
     check("both histories have the same files", names[0] == names[1] and names[0])
     print(f"two histories: {COPIED} files put, {len(names[0])} in each history")
     one.kill()

@@ -1,4 +1,4 @@
--- The history: a folder with a file for each file that changed a collection.
+-- The history: a folder with each solution file that was taken, in a folder for each day.
 use Rattle.std.specs.Prelude.{◌≢◌, ℕ, ◌<◌, ◌==◌, List, ◌++◌, None, Some, codes, decimal, if◌then◌else◌}
 use Rattle.std.specs.Int.{w32, to_be_bytes}
 use Rattle.std.specs.Net.Text.{ipv4_text}
@@ -7,14 +7,18 @@ use Rattle.tws_file.specs.declared.«ruleset».Ruleset.{Ruleset}
 use Rattle.tws_file.specs.Words.{ruleset_name}
 use Rattle.folders.specs.Folder.{FolderModel, Only, Stays}
 use Rattle.archive_history.specs.declared.history.TheConstants.{NAMES}
-use Rattle.archive_history.specs.Times.{compact}
+use Rattle.archive_history.specs.Times.{compact, day_of}
 
 -- ---- names
 
 -- `20261127T091500.123Z-127.0.0.1-5000-lynx`
-abbrev pub stem_text : (time : List ℕ) → (peer : Endpoint) → Ruleset → List ℕ
-stem_text time peer rules =
+abbrev pub stem_in_day : (time : List ℕ) → (peer : Endpoint) → Ruleset → List ℕ
+stem_in_day time peer rules =
     compact time ++ (codes "-" ++ (ipv4_text (to_be_bytes w32 peer.host) ++ (codes "-" ++ (decimal peer.port ++ (codes "-" ++ ruleset_name rules)))))
+
+-- the same in the folder of its day: `2026-11-27/20261127T091500.123Z-127.0.0.1-5000-lynx`
+abbrev pub stem_text : (time : List ℕ) → (peer : Endpoint) → Ruleset → List ℕ
+stem_text time peer rules = day_of time ++ (codes "/" ++ stem_in_day time peer rules)
 
 -- the names that such a file can have
 abbrev pub numbered : (stem : List ℕ) → (number : ℕ) → List ℕ

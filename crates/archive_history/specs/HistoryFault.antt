@@ -1,9 +1,10 @@
 -- The words of a fault of the history.
 use Rattle.std.specs.Prelude.{ℕ, List, codes}
 use Rattle.archive_history.specs.declared.history_fault.HistoryFault.{HistoryFault}
-use Rattle.archive_history.specs.declared.history_fault.HistoryFault.TheVariants.{NoFreeName, LookUp, Create, Write, Sync, Rename, SyncFolder, Memory}
+use Rattle.archive_history.specs.declared.history_fault.HistoryFault.TheVariants.{Day, NoFreeName, LookUp, Create, Write, Sync, Rename, SyncFolder, Memory}
 
 abbrev pub history_fault_text : HistoryFault → List ℕ
+history_fault_text Day = codes "no folder for the day"
 history_fault_text NoFreeName = codes "no free name"
 history_fault_text LookUp = codes "not looked up"
 history_fault_text Create = codes "not created"

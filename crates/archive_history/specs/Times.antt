@@ -1,5 +1,5 @@
 -- How the log and the history spell a moment.
-use Rattle.std.specs.Prelude.{◌≡◌, ℕ, Bool, false, List, ◌++◌, Some, filter, not, ◌==◌, ◌||◌, chars, encode_utf8_all}
+use Rattle.std.specs.Prelude.{◌≡◌, ℕ, Bool, false, List, ◌++◌, Some, filter, take_while, not, ◌==◌, ◌||◌, chars, encode_utf8_all}
 use Rattle.jiff.specs.Types.{DateTime, Timestamp}
 use Rattle.jiff.specs.Words.{civil_nanos}
 use Rattle.jiff_fmt.specs.Text.{datetime_text, zulu_text}
@@ -22,3 +22,7 @@ is_dash_or_colon c = (c == 45) || (c == 58)
 -- the same without dashes and colons, as a name of a file begins: `20261127T091500.123Z`
 abbrev pub compact : (text : List ℕ) → List ℕ
 compact text = encode_utf8_all (filter (λ c. not (is_dash_or_colon c)) (chars text))
+
+-- the day alone: `2026-11-27`
+abbrev pub day_of : (text : List ℕ) → List ℕ
+day_of text = encode_utf8_all (take_while (λ c. not (c == 84)) (chars text))

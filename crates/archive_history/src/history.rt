@@ -5,15 +5,20 @@ ghost use Rattle.std.specs.Io.KnownBytes.{Appends};
 ghost use Rattle.byte_output.specs.Failures.{Rises};
 ghost use Rattle.folders.specs.Folder.{Stays};
 ghost use Rattle.folders.specs.Publishing.{HasOnly, IsWritten};
-ghost use Rattle.archive_history.specs.History.{AddsNothing, Records, RecordsForGood, HasNoFreeName, numbered};
+ghost use Rattle.archive_history.specs.History.{AddsNothing, Records, RecordsForGood, HasNoFreeName, numbered, stem_text};
+ghost use Rattle.archive_history.specs.Times.{day_of};
 
 use crate::history_fault::HistoryFault;
-use crate::names::{draft_of, numbered as name_with};
+use crate::history_folder::HistoryFolder;
+use crate::names::{draft_of, numbered as name_with, stem_of};
+use crate::stamp::Stamp;
 use byte_output::OutFault;
 use folders::{Contents, Folder, FolderCall, PublishFault, publish};
 use std::alloc::Allocator;
 use std::io::Write;
 use tftp_ends::Received;
+use tftp_packet::Endpoint;
+use tws_file::Ruleset;
 
 /// How many names a file can have.
 pub const NAMES: u32 = 100;
@@ -94,14 +99,9 @@ fn publish_file<F: Folder, A: Allocator>(
     }
 }
 
-/// Puts a file that was taken into the history, under the first of its names that is not in use. It is written under
-/// the name of its draft, synced and renamed, and the folder is synced.
-///
-/// # Errors
-///
-/// The call of the folder that failed, `NoFreeName`, or `Memory`. After `SyncFolder` the file is in the history, but a
-/// crash may lose it. After any other fault it is not, and a draft is left only if it could not be removed.
-pub fn record<F: Folder, A: Allocator + Copy, B: Allocator>(
+// Puts a file into the history, under the first of the names with this stem that is not in use. It is written under the
+// name of its draft, synced and renamed, and the folder is synced.
+fn record_under<F: Folder, A: Allocator + Copy, B: Allocator>(
     alloc: A,
     folder: &mut F,
     stem: &str,
@@ -117,4 +117,36 @@ pub fn record<F: Folder, A: Allocator + Copy, B: Allocator>(
     let name = free_name(alloc, folder, stem)?;
     let draft = draft_of(alloc, name.as_str())?;
     publish_file(folder, draft.as_str(), name.as_str(), file)
+}
+
+/// Puts a file that was taken from a peer at this time into the folder of its day, which is made if there is none, under
+/// the first of its names that is not in use. It is written under the name of its draft, synced and renamed, and the folder
+/// is synced.
+///
+/// # Errors
+///
+/// The call of the folder that failed, `NoFreeName`, or `Memory`. After `SyncFolder` the file is in the history, but a
+/// crash may lose it. After any other fault it is not, and a draft is left only if it could not be removed.
+pub fn record<F: HistoryFolder, A: Allocator + Copy, B: Allocator>(
+    alloc: A,
+    folder: &mut F,
+    time: &Stamp,
+    peer: Endpoint,
+    ruleset: Ruleset,
+    file: &Received<B>,
+) -> Result<(), HistoryFault>
+    ensures day { OnOk result ((there : F) × F.is_open there (day_of time.now)) }
+    ensures recorded { F.has_model ≡ true → OnOk result (RecordsForGood F.model (stem_text time.now peer «ruleset») file.now folder.old folder.new) }
+    ensures unsynced { F.has_model ≡ true → result ≡ Err HistoryFault.SyncFolder → Records F.model (stem_text time.now peer «ruleset») file.now folder.old folder.new }
+    ensures failed { F.has_model ≡ true → F.undoes_renames ≡ true → IfErr result (λ e. e ≢ HistoryFault.SyncFolder → AddsNothing F.model folder.old folder.new) }
+    ensures full { F.has_model ≡ true → result ≡ Err HistoryFault.NoFreeName → HasNoFreeName F.model (stem_text time.now peer «ruleset») folder.old }
+    ensures more { F.faults folder.old ≤ F.faults folder.new }
+    ensures fault { IfErr result (λ e. e ≢ HistoryFault.Memory → e ≢ HistoryFault.NoFreeName → Rises (F.faults folder.old) (F.faults folder.new)) }
+{
+    let day = time.day(alloc)?;
+    let stem = stem_of(alloc, day.as_str(), time, peer, ruleset)?;
+    match folder.open_day(day.as_str()) {
+        Ok(()) => record_under(alloc, folder, stem.as_str(), file),
+        Err(_) => Err(HistoryFault::Day),
+    }
 }

@@ -10,6 +10,8 @@ use std::fmt;
 /// Why a file is not in the history.
 #[derive(Clone, Copy, Debug, PartialEq, Eq)]
 pub enum HistoryFault {
+    /// The folder of its day could not be made.
+    Day,
     /// Every name that it could have is in use.
     NoFreeName,
     /// The folder did not say whether a name is in use.
@@ -34,6 +36,7 @@ impl fmt::Display for HistoryFault {
 
     fn fmt<W: fmt::Write>(&self, f: &mut fmt::Formatter<W>) -> fmt::Result {
         f.write_str(match self {
+            HistoryFault::Day => "no folder for the day",
             HistoryFault::NoFreeName => "no free name",
             HistoryFault::LookUp => "not looked up",
             HistoryFault::Create => "not created",

@@ -1,4 +1,4 @@
-//! The history of an archive: a folder of the crate `folders` with a file for each file that changed a collection.
+//! The history of an archive: a folder of the crate `folders` with each solution file that was taken, by day.
 //!
 //! Read `specs/History.antt` first: the names of such a file, and what it is that one was added. README.md shows how the
 //! crate is called.
@@ -6,10 +6,11 @@
 
 mod history;
 mod history_fault;
+mod history_folder;
 mod names;
 mod stamp;
 
 pub use history::{NAMES, record};
 pub use history_fault::HistoryFault;
-pub use names::stem_of;
+pub use history_folder::HistoryFolder;
 pub use stamp::Stamp;

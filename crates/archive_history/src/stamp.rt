@@ -1,7 +1,7 @@
 //! Times as a log and the history spell them.
 
 ghost use Rattle.std.specs.Prelude.{◌≡◌, IfOk, string_bytes};
-ghost use Rattle.archive_history.specs.Times.{IsStamp, ShowsMoment, compact};
+ghost use Rattle.archive_history.specs.Times.{IsStamp, ShowsMoment, compact, day_of};
 
 use arrayvec::ArrayString;
 use jiff::Timestamp;
@@ -57,6 +57,17 @@ impl Stamp {
             .as_str()
             .chars()
             .filter(|c| *c != '-' && *c != ':')
+            .collect(alloc)
+    }
+
+    /// The day alone, as its folder is named: `2026-11-27`.
+    pub(crate) fn day<A: Allocator + Copy>(&self, alloc: A) -> Result<String<A>, AllocError>
+        ensures { IfOk result (λ text. string_bytes text ≡ day_of self.now) }
+    {
+        self.text
+            .as_str()
+            .chars()
+            .take_while(|c| *c != 'T')
             .collect(alloc)
     }
 }

@@ -1,25 +1,18 @@
 -- What a deck of ports deals, one draw after another.
-use Rattle.std.specs.Prelude.{◌≡◌, ℕ, ◌+◌, ◌<◌, List, [], ◌∷◌, length, slice_index}
-use Rattle.archive_host.specs.declared.port_deck.TheConstants.{LEN}
+use Rattle.std.specs.Prelude.{◌≡◌, ◌≢◌, ℕ, ◌+◌, ◌<◌, List, [], ◌∷◌, length, slice_index_or}
+use Rattle.std.specs.List.{AllPairs}
 use Rattle.archive_host.specs.Drawing.{Draws}
 
--- the ports for private use from the least one on, in order
-pub record AreFrom (cards : List ℕ) (count : ℕ) : Type 0 where
+-- so many ports from the first one on, in order
+pub record AreFrom (first : ℕ) (cards : List ℕ) (count : ℕ) : Type 0 where
   pub size : length cards ≡ count
-  pub each : (k : ℕ) → k < count → slice_index cards k ≡ 49152 + k
+  pub each : (k d : ℕ) → k < count → slice_index_or cards k d ≡ first + k
 
 -- no port is there twice
 abbrev pub AreDistinct : List ℕ → Type 0
-AreDistinct cards =
-    (i j : ℕ) → i < LEN → j < LEN → slice_index cards i ≡ slice_index cards j → i ≡ j
-
-pub record IsDeck (cards : List ℕ) (next : ℕ) : Type 0 where
-  pub size : length cards ≡ LEN
-  pub within : next < LEN
-  pub distinct : AreDistinct cards
+AreDistinct cards = AllPairs (λ one other. one ≢ other) cards
 
 -- these ports are drawn
-abbrev pub Deals : (ports cards : List ℕ) (next : ℕ) → Type 0
-Deals [] cards next = Unit {0}
-Deals (port ∷ ports) cards next =
-    (after : List ℕ) × (place : ℕ) × Draws cards after next place port × Deals ports after place
+abbrev pub Deals : (ports cards : List ℕ) → Type 0
+Deals [] cards = Unit {0}
+Deals (port ∷ ports) cards = (after : List ℕ) × Draws cards after port × Deals ports after

@@ -1,10 +1,11 @@
 //! A folder of the system.
 
-ghost use Rattle.std.specs.Prelude.{◌≡◌, ◌≤◌, false, None, Some, IfOk, OnErr, IsSome, string_bytes};
+ghost use Rattle.std.specs.Prelude.{◌≡◌, ◌≤◌, false, None, Some, IfOk, OnErr, IsSome, option_map, string_bytes};
 ghost use Rattle.byte_output.specs.Failures.{Rises};
 
 use crate::folder_path::FolderPath;
 use crate::host_file::HostFile;
+use archive_history::HistoryFolder;
 use archive_keepers::FolderKeeper;
 use folders::{CallFault, Folder};
 use std::alloc::Allocator;
@@ -33,6 +34,13 @@ pub enum OpenFault {
 /// A keeper over a folder of the system.
 pub type DirKeeper<R> = FolderKeeper<HostFolder<R>>;
 
+// The folder of a day, which is open.
+#[derive(Drop)]
+struct OpenDay {
+    name: String,
+    folder: File,
+}
+
 /// A folder of the system. A new file gets the permissions of the file that it replaces, as `permissions_kept` says; one
 /// that is no regular file, such as a symbolic link, is neither replaced nor opened. It has no model.
 #[derive(Drop)]
@@ -43,6 +51,8 @@ pub struct HostFolder<R: Files<File = File> + AllocGlobal + Copy> {
     target: FolderPath,
     // The folder itself, which is synced, and holds the lock.
     folder: File,
+    // The folder of a day, if one was opened: it is synced from then on.
+    day: Option<OpenDay>,
     faults: u64,
     error: Option<io::Error>,
 }
@@ -62,6 +72,20 @@ fn open_folder<R: Files<File = File>>(rt: &R, dir: &str) -> io::Result<File> {
         return Err(io::Error::from(ErrorKind::NotADirectory));
     }
     fs::open(rt, dir)
+}
+
+// Makes a folder, if there is nothing of its name. Returns whether it did.
+fn make_folder<R: Files<File = File>>(rt: &R, path: Path<'_>) -> io::Result<bool> {
+    match fs::create_dir(rt, path) {
+        Ok(()) => Ok(true),
+        Err(e) => {
+            if e.kind() == ErrorKind::AlreadyExists {
+                Ok(false)
+            } else {
+                Err(e)
+            }
+        }
+    }
 }
 
 // What the system knows of a file, if there is one.
@@ -101,8 +125,8 @@ fn keep_permissions(file: &File, old: &Metadata) -> io::Result<()> {
 }
 
 impl<R: Files<File = File> + AllocGlobal + Copy> HostFolder<R> {
-    /// Opens the folder of this name. No later call allocates anything but the text that it reads and the path of a name
-    /// of more than 126 bytes.
+    /// Opens the folder of this name. No later call allocates anything but the text that it reads, the name of a day, and
+    /// the path of a name of more than 126 bytes.
     ///
     /// # Errors
     ///
@@ -121,6 +145,7 @@ impl<R: Files<File = File> + AllocGlobal + Copy> HostFolder<R> {
             path,
             target,
             folder,
+            day: None,
             faults: 0,
             error: None,
         })
@@ -231,6 +256,30 @@ impl<R: Files<File = File> + AllocGlobal + Copy> HostFolder<R> {
         fs::rename(&self.rt, from, to)
     }
 
+    // Whether the folder of this day is open.
+    fn is_open(&self, day: &str) -> bool {
+        match &self.day {
+            Some(open) => open.name.as_str() == day,
+            None => false,
+        }
+    }
+
+    // `open_day` without counting faults. The folder's name is on the disk if it is not new, and was opened before.
+    fn day_folder(&mut self, day: &str) -> io::Result<OpenDay>
+        ensures faults { self.new.faults ≡ self.old.faults }
+        ensures name { IfOk result (λ d. string_bytes d.name ≡ day.now) }
+    {
+        let name = String::from_str(self.rt.alloc(), day)?;
+        let is_open = self.is_open(day);
+        let path = self.path.of(day)?;
+        let is_new = make_folder(&self.rt, path)?;
+        let folder = open_folder(&self.rt, path.as_str())?;
+        if is_new || !is_open {
+            self.folder.sync_all()?;
+        }
+        Ok(OpenDay { name, folder })
+    }
+
     // `read` without counting faults.
     fn read_file<A: Allocator>(&mut self, alloc: A, name: &str) -> io::Result<Option<Vec<u8, A>>>
         ensures faults { self.new.faults ≡ self.old.faults }
@@ -288,7 +337,10 @@ impl<R: Files<File = File> + AllocGlobal + Copy> Folder for HostFolder<R> {
     }
 
     fn sync_folder(&mut self) -> Result<(), CallFault> {
-        let result = self.folder.sync_all();
+        let result = match &self.day {
+            Some(open) => open.folder.sync_all(),
+            None => self.folder.sync_all(),
+        };
         self.counted(result)
     }
 
@@ -305,5 +357,22 @@ impl<R: Files<File = File> + AllocGlobal + Copy> Folder for HostFolder<R> {
         ensures error { result ≡ self.now.error }
     {
         HostFolder::last_error(self)
+    }
+}
+
+impl<R: Files<File = File> + AllocGlobal + Copy> HistoryFolder for HostFolder<R> {
+    ghost is_open = { λ f day. option_map (λ d. string_bytes d.name) f.day ≡ Some day };
+
+    fn open_day(&mut self, day: &str) -> Result<(), CallFault> {
+        match self.day_folder(day) {
+            Ok(open) => {
+                self.day = Some(open);
+                Ok(())
+            }
+            Err(cause) => {
+                self.note(cause);
+                Err(fault_of(&cause))
+            }
+        }
     }
 }

@@ -9,7 +9,7 @@ ghost use Rattle.archive_host.specs.declared.udp_wire.TheConstants.{REREAD_EVERY
 
 use crate::open_port::OpenPort;
 use crate::open_ports::OpenPorts;
-use crate::port_deck::{LEN, PortDeck};
+use crate::port_deck::{FIRST, LAST, PortDeck};
 use crate::watch::Watch;
 use archive_wire::{RECEIVE_SIZE, Ready, ReadyWire, Wire, WireFault};
 use std::io;
@@ -43,6 +43,9 @@ pub struct UdpWire<R: Net + Clock + RandomSource + AllocGlobal + Copy> {
     host: u32,
     watch: Option<Watch>,
     ports: OpenPorts,
+    // The ports that are opened for transfers: from the first to the last.
+    first: u16,
+    last: u16,
     deck: Option<PortDeck>,
     given: Option<u16>,
     listens: bool,
@@ -56,6 +59,8 @@ pub struct UdpWire<R: Net + Clock + RandomSource + AllocGlobal + Copy> {
     // What the system said of the port that `open` opened last without success.
     error: Option<io::Error>,
     ghost numbered: { poll_number < REREAD_EVERY },
+    ghost positive: { 1 ≤ first },
+    ghost ranged: { first < last },
 }
 
 // An unpredictable seed, if the system has a source of random bytes, and otherwise one that differs from one
@@ -83,6 +88,8 @@ impl<R: Net + Clock + RandomSource + AllocGlobal + Copy> UdpWire<R> {
             host: 0,
             watch: None,
             ports: OpenPorts::new(rt.alloc()),
+            first: FIRST,
+            last: LAST,
             deck: None,
             given: None,
             listens: false,
@@ -135,6 +142,23 @@ impl<R: Net + Clock + RandomSource + AllocGlobal + Copy> UdpWire<R> {
         Ok(wire)
     }
 
+    /// Has the ports that are opened for transfers from now on be those from `first` to `last`, in place of those for private
+    /// use (RFC 6335 section 6).
+    pub fn use_ports(&mut self, first: u16, last: u16)
+        requires positive { 1 ≤ first }
+        requires range { first < last }
+        ensures first { self.new.first ≡ first }
+        ensures last { self.new.last ≡ last }
+        ensures deck { self.new.deck ≡ None }
+        ensures host { self.new.host ≡ self.old.host }
+        ensures ports { self.new.ports ≡ self.old.ports }
+        ensures failures { self.new.failures ≡ self.old.failures }
+    {
+        self.first = first;
+        self.last = last;
+        self.deck = None;
+    }
+
     // Counts a failure.
     fn count_failure(&mut self)
         ensures failed { Rises self.old.failures self.new.failures }
@@ -171,7 +195,8 @@ impl<R: Net + Clock + RandomSource + AllocGlobal + Copy> UdpWire<R> {
         ensures failures { self.new.failures ≡ self.old.failures }
     {
         if self.deck.is_none() {
-            self.deck = PortDeck::new(self.rt.alloc(), seed(&self.rt)).ok();
+            let seed = seed(&self.rt);
+            self.deck = PortDeck::new(self.rt.alloc(), seed, self.first, self.last).ok();
         }
         match &mut self.deck {
             Some(deck) => Some(deck.take()),
@@ -183,7 +208,7 @@ impl<R: Net + Clock + RandomSource + AllocGlobal + Copy> UdpWire<R> {
     fn open_next(&mut self) -> io::Result<u16>
         ensures failures { self.new.failures ≡ self.old.failures }
     {
-        for _ in 0..LEN {
+        for _ in 0..=self.last - self.first {
             let Some(port) = self.next_port() else {
                 return Err(io::Error::from(ErrorKind::OutOfMemory));
             };

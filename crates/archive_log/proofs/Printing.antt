@@ -29,7 +29,7 @@ use Rattle.archive_log.specs.declared.log_event.LogEvent.TheVariants as event
 use Rattle.byte_output.specs.Printable.{IsPrintable, shown, shown_byte}
 use Rattle.tws_file.specs.Words.{ruleset_name}
 use Rattle.archive_history.specs.HistoryFault.{history_fault_text}
-use Rattle.archive_log.specs.Lines.{peer_text, ruleset_text, fault_text, cause_text, drop_text, message_of, level_of, folder_pairs, pairs_of, timed_pairs, line_of}
+use Rattle.archive_log.specs.Lines.{peer_text, ruleset_text, fault_text, cause_text, drop_text, message_of, level_of, folder_pairs, pairs_of, timed_pairs, line_of, lost_text}
 
 -- ---- texts
 
@@ -121,6 +121,7 @@ cause_plain PeerError = word (codes "error from the peer") refl
 cause_plain TimedOut = word (codes "timed out") refl
 
 history_fault_plain : (e : HistoryFault) → Plain (history_fault_text e)
+history_fault_plain history.Day = word (codes "no folder for the day") refl
 history_fault_plain history.NoFreeName = word (codes "no free name") refl
 history_fault_plain history.LookUp = word (codes "not looked up") refl
 history_fault_plain history.Create = word (codes "not created") refl
@@ -129,6 +130,10 @@ history_fault_plain history.Sync = word (codes "not synced") refl
 history_fault_plain history.Rename = word (codes "not renamed") refl
 history_fault_plain history.SyncFolder = word (codes "folder not synced") refl
 history_fault_plain history.Memory = word (codes "out of memory") refl
+
+lost_plain : (why : HistoryFault) (cause : Option (List ℕ)) → Plain (lost_text why cause)
+lost_plain why None = history_fault_plain why
+lost_plain why (Some cause) = join (history_fault_text why) (codes ": " ++ shown cause) (history_fault_plain why) (join (codes ": ") (shown cause) (word (codes ": ") refl) (shown_plain cause))
 
 -- ---- pairs
 
@@ -191,7 +196,7 @@ event_plain (event.GetFinished peer rules bytes millis) =
     (peer_key peer, (rules_key rules, (number_key (codes "bytes") refl bytes, (number_key (codes "millis") refl millis, tt))))
 event_plain (event.KeepFailed rules bytes why) =
     (rules_key rules, (number_key (codes "bytes") refl bytes, ((word (codes "why") refl, shown_plain why.now), tt)))
-event_plain (event.NotRecorded peer why) = (peer_key peer, ((word (codes "why") refl, history_fault_plain why), tt))
+event_plain (event.NotRecorded peer why cause) = (peer_key peer, ((word (codes "why") refl, lost_plain why (option_map (λ c. c.now) cause)), tt))
 event_plain (event.Stopped taken served) = (number_key (codes "taken") refl taken, (number_key (codes "served") refl served, tt))
 
 -- ---- the line
@@ -212,7 +217,7 @@ message_plain (event.PutFailed peer block why) = word (codes "put failed") refl
 message_plain (event.GetFailed peer rules block why) = word (codes "get failed") refl
 message_plain (event.GetFinished peer rules bytes millis) = word (codes "get finished") refl
 message_plain (event.KeepFailed rules bytes why) = word (codes "keep failed") refl
-message_plain (event.NotRecorded peer why) = word (codes "not recorded") refl
+message_plain (event.NotRecorded peer why cause) = word (codes "not recorded") refl
 message_plain (event.Stopped taken served) = word (codes "stopped") refl
 
 pub line_printable : (time : List ℕ) (e : LogEvent) → All IsPrintable time → All IsPrintable (line_of time e)

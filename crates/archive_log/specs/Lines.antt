@@ -1,5 +1,5 @@
 -- The lines of the log: one for each event.
-use Rattle.std.specs.Prelude.{ℕ, ◌≤◌, ◌&&◌, nat_le, List, [], ◌∷◌, ◌++◌, map, Option, None, Some, option_map, codes, decimal, if◌then◌else◌}
+use Rattle.std.specs.Prelude.{ℕ, List, [], ◌∷◌, ◌++◌, Option, None, Some, option_map, codes, decimal}
 use Rattle.std.specs.Int.{w32, to_be_bytes}
 use Rattle.std.specs.Net.Text.{ipv4_text}
 use Rattle.log.specs.declared.level.Level.{Level}
@@ -18,6 +18,7 @@ use Rattle.archive_server.specs.declared.drop_cause.DropCause.TheVariants.{ManyT
 use Rattle.archive_table.specs.declared.step_event.FailureCause.{FailureCause}
 use Rattle.archive_table.specs.declared.step_event.FailureCause.TheVariants.{Refused, PeerError, TimedOut}
 use Rattle.byte_output.specs.Printable.{shown}
+use Rattle.archive_history.specs.declared.history_fault.HistoryFault.{HistoryFault}
 use Rattle.archive_history.specs.HistoryFault.{history_fault_text}
 use Rattle.archive_log.specs.declared.log_event.LogEvent.{LogEvent}
 use Rattle.archive_log.specs.declared.log_event.LogEvent.TheVariants as event
@@ -48,6 +49,11 @@ cause_text (Refused why) = shown (refusal_text why)
 cause_text PeerError = codes "error from the peer"
 cause_text TimedOut = codes "timed out"
 
+-- why a file is not in the history, with the words of the system if they are known
+abbrev pub lost_text : HistoryFault → Option (List ℕ) → List ℕ
+lost_text why None = history_fault_text why
+lost_text why (Some cause) = history_fault_text why ++ (codes ": " ++ shown cause)
+
 -- why a request was dropped
 abbrev pub drop_text : DropCause → List ℕ
 drop_text ManyTransfers = codes "too many transfers of its host"
@@ -64,7 +70,7 @@ message_of (event.PutFailed peer block why) = codes "put failed"
 message_of (event.GetFailed peer rules block why) = codes "get failed"
 message_of (event.GetFinished peer rules bytes millis) = codes "get finished"
 message_of (event.KeepFailed rules bytes why) = codes "keep failed"
-message_of (event.NotRecorded peer why) = codes "not recorded"
+message_of (event.NotRecorded peer why cause) = codes "not recorded"
 message_of (event.Stopped taken served) = codes "stopped"
 
 -- a put that failed, and one whose file is unreadable
@@ -85,7 +91,7 @@ level_of (event.PutFailed peer block why) = failed_level why
 level_of (event.GetFailed peer rules block why) = level.Warn
 level_of (event.GetFinished peer rules bytes millis) = level.Info
 level_of (event.KeepFailed rules bytes why) = level.Error
-level_of (event.NotRecorded peer why) = level.Error
+level_of (event.NotRecorded peer why cause) = level.Error
 level_of (event.Stopped taken served) = level.Info
 
 -- the folder stands last, as its name may have any length and spaces
@@ -109,7 +115,8 @@ pairs_of (event.GetFinished peer rules bytes millis) =
     (codes "peer", peer_text peer) ∷ (codes "ruleset", ruleset_name rules) ∷ (codes "bytes", decimal bytes) ∷ (codes "millis", decimal millis) ∷ []
 pairs_of (event.KeepFailed rules bytes why) =
     (codes "ruleset", ruleset_name rules) ∷ (codes "bytes", decimal bytes) ∷ (codes "why", shown why.now) ∷ []
-pairs_of (event.NotRecorded peer why) = (codes "peer", peer_text peer) ∷ (codes "why", history_fault_text why) ∷ []
+pairs_of (event.NotRecorded peer why cause) =
+    (codes "peer", peer_text peer) ∷ (codes "why", lost_text why (option_map (λ c. c.now) cause)) ∷ []
 pairs_of (event.Stopped taken served) = (codes "taken", decimal taken) ∷ (codes "served", decimal served) ∷ []
 
 abbrev pub timed_pairs : (time : List ℕ) → LogEvent → List Pair

@@ -1,5 +1,5 @@
 -- What a log and a history make of a step.
-use Rattle.std.specs.Prelude.{◌≡◌, ◌⊎◌, ℕ, List, Option, None, Some}
+use Rattle.std.specs.Prelude.{◌≡◌, ◌⊎◌, ℕ, List, Option, None, Some, IsSome}
 use Rattle.tftp_packet.specs.declared.endpoint.Endpoint.{Endpoint}
 use Rattle.tws_file.specs.declared.«ruleset».Ruleset.{Ruleset}
 use Rattle.tws_file.specs.Fields.{ruleset_in}
@@ -47,11 +47,11 @@ pub record Recorded {H : Type 0} (m : FolderModel H) (t : Taken) (old new : Opti
   pub is : new ≡ Some after
   pub adds : AddsNothing m before after ⊎ RecordsTaken m t before after
 
--- No file of the history is changed or removed, but for drafts: at most the file that was taken is added, and only if it
--- improved a collection.
+-- No file of the history is changed or removed, but for drafts: at most the file that was taken is added, and only if it is
+-- readable, whether or not it improved a collection.
 pub record KeepsFile {H : Type 0} (m : FolderModel H) (t : Taken) (merged : Merged) (old new : Option H) : Type 0 where
   pub adds : (new ≡ old) ⊎ Recorded m t old new
-  pub useless : merged.better ≡ 0 → new ≡ old
+  pub unreadable : IsSome merged.fault → new ≡ old
 
 abbrev pub KeepsAs : {H : Type 0} (m : FolderModel H) → StepEvent → Taken → (old new : Option H) → Type 0
 KeepsAs m did.Nothing t old new = new ≡ old

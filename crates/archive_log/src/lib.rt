@@ -10,6 +10,7 @@ mod log_event;
 mod log_line;
 mod logged_transfer;
 mod logged_transfers;
+mod lost_words;
 mod pairs;
 mod peer;
 mod reporting_keeper;

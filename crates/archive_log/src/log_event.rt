@@ -63,10 +63,11 @@ pub enum LogEvent<'a> {
         bytes: u64,
         why: &'a str,
     },
-    /// A file that was taken is not in the history.
+    /// A file that was taken is not in the history; `cause` is in the words of the system, if a call of it failed.
     NotRecorded {
         peer: Endpoint,
         why: HistoryFault,
+        cause: Option<&'a str>,
     },
     /// The server stopped: how many files it took, and how many gets were finished.
     Stopped {

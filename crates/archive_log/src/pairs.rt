@@ -6,6 +6,7 @@ ghost use Rattle.archive_log.specs.Lines.{pairs_of, folder_pairs, peer_text, rul
 
 use crate::cause_words::CauseWords;
 use crate::log_event::LogEvent;
+use crate::lost_words::LostWords;
 use crate::peer::peer_address;
 use crate::upload::Upload;
 use archive_history::HistoryFault;
@@ -216,11 +217,12 @@ fn visit_not_recorded<V: VisitSource>(
     visitor: &mut V,
     peer: Endpoint,
     why: HistoryFault,
+    cause: Option<&str>,
 ) -> Result<(), kv::Error>
-    ensures { OnOk result (FoldsTo V.visit_pair_gives visitor.old (pairs_of (LogEvent.NotRecorded peer why)) visitor.new) }
+    ensures { OnOk result (FoldsTo V.visit_pair_gives visitor.old (pairs_of (LogEvent.NotRecorded peer why cause.entry)) visitor.new) }
 {
     visit_peer(visitor, peer)?;
-    visit_pair(visitor, "why", &display(why))
+    visit_pair(visitor, "why", &display(LostWords { why, cause }))
 }
 
 fn visit_stopped<V: VisitSource>(visitor: &mut V, taken: u64, served: u64) -> Result<(), kv::Error>
@@ -267,7 +269,9 @@ impl Source for LogEvent<'_> {
                 bytes,
                 why,
             } => visit_keep_failed(visitor, *ruleset, *bytes, *why),
-            LogEvent::NotRecorded { peer, why } => visit_not_recorded(visitor, *peer, *why),
+            LogEvent::NotRecorded { peer, why, cause } => visit_not_recorded(
+                visitor, *peer, *why, *cause,
+            ),
             LogEvent::Stopped { taken, served } => visit_stopped(visitor, *taken, *served),
         }
     }

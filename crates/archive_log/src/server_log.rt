@@ -10,21 +10,26 @@ ghost use Rattle.archive_log.specs.ServerLog.{FollowsStep, KeepsFile, KeepsTaken
 use crate::log_event::LogEvent;
 use crate::log_line::LogLine;
 use crate::logged_transfers::LoggedTransfers;
-use archive_history::{HistoryFault, Stamp, record as record_in, stem_of};
+use archive_history::{HistoryFault, HistoryFolder, Stamp, record as record_in};
 use archive_server::{DropCause, ServerObserver};
 use archive_table::{Merged, Observer, Step, StepEvent, Table, Taken};
-use folders::Folder;
+use arrayvec::ArrayString;
 use log::Log;
 use std::alloc::{Allocator, Global};
+use std::fmt::Write;
+use std::io;
 use std::marker::Model;
 use std::time::Clock;
 use tftp_packet::Endpoint;
 use tws_file::Ruleset;
 
-/// Writes a line to a log for each event of a server, and puts each file that changed a collection into a history, if
-/// there is one. Whatever it cannot write or has no memory for changes nothing else.
+// How many bytes of a cause are reported at most.
+const CAUSE: usize = 256;
+
+/// Writes a line to a log for each event of a server, and puts each solution file that was taken into a history, if there
+/// is one. Whatever it cannot write or has no memory for changes nothing else.
 #[derive(Drop)]
-pub struct ServerLog<C: Clock, L: Log, H: Folder, A: Allocator + Copy = Global> {
+pub struct ServerLog<C: Clock, L: Log, H: HistoryFolder, A: Allocator + Copy = Global> {
     alloc: A,
     clock: C,
     log: L,
@@ -44,7 +49,7 @@ fn millis_now(clock: &impl Clock) -> u64 {
     }
 }
 
-impl<C: Clock, L: Log, H: Folder, A: Allocator + Copy> Model for ServerLog<C, L, H, A> {
+impl<C: Clock, L: Log, H: HistoryFolder, A: Allocator + Copy> Model for ServerLog<C, L, H, A> {
     ghost use Rattle.archive_log.specs.ServerLog.{Logged};
 
     ghost Value = { Logged H };
@@ -52,7 +57,7 @@ impl<C: Clock, L: Log, H: Folder, A: Allocator + Copy> Model for ServerLog<C, L,
     ghost view = { λ log. record { transfers = log.transfers; history = log.history; taken = log.taken; served = log.served } };
 }
 
-impl<C: Clock, L: Log, H: Folder, A: Allocator + Copy> ServerLog<C, L, H, A> {
+impl<C: Clock, L: Log, H: HistoryFolder, A: Allocator + Copy> ServerLog<C, L, H, A> {
     /// A log of a server that has made no step yet.
     pub fn new(alloc: A, clock: C, log: L, history: Option<H>) -> Self
         ensures { result ≡ record { transfers = []; history = history; taken = 0; served = 0 } }
@@ -118,6 +123,29 @@ impl<C: Clock, L: Log, H: Folder, A: Allocator + Copy> ServerLog<C, L, H, A> {
         }
     }
 
+    // Reports that a file is not in the history, with the system's cause if it is known.
+    fn report_lost(&self, time: &Stamp, peer: Endpoint, why: HistoryFault) {
+        let mut words = ArrayString::<CAUSE>::new();
+        if let Some(error) = self.cause_of(why) {
+            // What does not fit is left out.
+            let _ = write!(words, "{error}");
+        }
+        let cause = if words.is_empty() {
+            None
+        } else {
+            Some(words.as_str())
+        };
+        self.report(time, LogEvent::NotRecorded { peer, why, cause });
+    }
+
+    // What the system said of the call of the history that failed, if one did.
+    fn cause_of(&self, why: HistoryFault) -> Option<io::Error> {
+        match why {
+            HistoryFault::NoFreeName | HistoryFault::Memory => None,
+            _ => self.history.as_ref()?.last_error(),
+        }
+    }
+
     // Puts a file that was taken into the history, or reports why it is not there.
     fn record<T: Allocator>(&mut self, time: &Stamp, taken: &Taken<T>, merged: Merged)
         requires { ShowsMoment time.now }
@@ -125,8 +153,7 @@ impl<C: Clock, L: Log, H: Folder, A: Allocator + Copy> ServerLog<C, L, H, A> {
         ensures history { H.has_model ≡ true → H.undoes_renames ≡ true → KeepsFile H.model taken.now merged self.old.history self.new.history }
     {
         if let Err(why) = add_to_history(self.alloc, &mut self.history, time, taken, merged) {
-            let peer = taken.peer;
-            self.report(time, LogEvent::NotRecorded { peer, why });
+            self.report_lost(time, taken.peer, why);
         }
     }
 
@@ -179,8 +206,9 @@ fn started_event<'a, T: Allocator + Copy>(
     }
 }
 
-// Puts a file that changed a collection into the history, if there is one.
-fn add_to_history<H: Folder, A: Allocator + Copy, T: Allocator>(
+// Puts a file that was taken into the history, if there is one and the file is readable. Whether it improved a collection
+// does not matter: what it was worse than may be bogus.
+fn add_to_history<H: HistoryFolder, A: Allocator + Copy, T: Allocator>(
     alloc: A,
     history: &mut Option<H>,
     time: &Stamp,
@@ -190,7 +218,7 @@ fn add_to_history<H: Folder, A: Allocator + Copy, T: Allocator>(
     requires { ShowsMoment time.now }
     ensures { H.has_model ≡ true → H.undoes_renames ≡ true → KeepsFile H.model taken.now merged history.old history.new }
 {
-    if merged.better == 0 {
+    if merged.fault.is_some() {
         return Ok(());
     }
     let Some(history) = history else {
@@ -199,12 +227,11 @@ fn add_to_history<H: Folder, A: Allocator + Copy, T: Allocator>(
     let Some(ruleset) = taken.ruleset() else {
         return Ok(());
     };
-    let stem = stem_of(alloc, time, taken.peer, ruleset)?;
-    record_in(alloc, history, stem.as_str(), &taken.file)
+    record_in(alloc, history, time, taken.peer, ruleset, &taken.file)
 }
 
-/// A step is reported if it is an event, and the file that it took goes into the history if it changed a collection.
-impl<C: Clock, L: Log, H: Folder, A: Allocator + Copy> Observer for ServerLog<C, L, H, A> {
+/// A step is reported if it is an event, and the file that it took goes into the history if it is readable.
+impl<C: Clock, L: Log, H: HistoryFolder, A: Allocator + Copy> Observer for ServerLog<C, L, H, A> {
     fn on_step<T: Allocator + Copy>(
         &mut self,
         port: u16,
@@ -220,7 +247,8 @@ impl<C: Clock, L: Log, H: Folder, A: Allocator + Copy> Observer for ServerLog<C,
 }
 
 /// The server's start and stop are reported, and each request that was dropped.
-impl<C: Clock, L: Log, H: Folder, A: Allocator + Copy> ServerObserver for ServerLog<C, L, H, A> {
+impl<C: Clock, L: Log, H: HistoryFolder, A: Allocator + Copy> ServerObserver
+    for ServerLog<C, L, H, A> {
     fn on_started<T: Allocator + Copy>(
         &mut self,
         at: Endpoint,

@@ -4,6 +4,7 @@
 ghost use Rattle.std.specs.Prelude.{false};
 
 use crate::site::{Input, Morning, log_steps};
+use archive_history::HistoryFolder;
 use archive_keepers::NoKeeper;
 use archive_log::ServerLog;
 use archive_table::Table;
@@ -17,16 +18,18 @@ use std::test::Fail;
 use std::time::Clock;
 use test_samples::{DATA_HUNDRED, DATA_NINETY, DATA_UNREADABLE, HUNDRED, NINETY, WRQ};
 
-const FIRST: &str = "20261127T091500.123Z-0.0.0.2-5000-lynx.tws";
+const FIRST: &str = "2026-11-27/20261127T091500.123Z-0.0.0.2-5000-lynx.tws";
 
-const SECOND: &str = "20261127T091500.123Z-0.0.0.2-5000-lynx-1.tws";
+const SECOND: &str = "2026-11-27/20261127T091500.123Z-0.0.0.2-5000-lynx-1.tws";
 
-const THIRD: &str = "20261127T091500.123Z-0.0.0.2-5000-lynx-2.tws";
+const THIRD: &str = "2026-11-27/20261127T091500.123Z-0.0.0.2-5000-lynx-2.tws";
 
-const DRAFT: &str = "20261127T091500.123Z-0.0.0.2-5000-lynx.tws.new";
+const FOURTH: &str = "2026-11-27/20261127T091500.123Z-0.0.0.2-5000-lynx-3.tws";
+
+const DRAFT: &str = "2026-11-27/20261127T091500.123Z-0.0.0.2-5000-lynx.tws.new";
 
 // Lets a new server without a keeper make these steps, and logs them.
-fn serve<C: Clock, L: Log, H: Folder>(
+fn serve<C: Clock, L: Log, H: HistoryFolder>(
     alloc: Global,
     log: &mut ServerLog<C, L, H>,
     inputs: &[Input<'_>],
@@ -55,39 +58,41 @@ fn is_file(history: &MemoryFolder, name: &str, wanted: &[u8]) -> bool {
     }
 }
 
-// Whether a history has the slower solution, the faster one, and nothing else.
-fn has_both(history: &Option<MemoryFolder>) -> bool {
+// Whether a history has these three files, and nothing else.
+fn has_three(history: &Option<MemoryFolder>, files: [&[u8]; 3]) -> bool {
     match history {
         Some(history) => {
-            is_file(history, FIRST, HUNDRED)
-                && is_file(history, SECOND, NINETY)
-                && history.file(THIRD).is_none()
+            is_file(history, FIRST, files[0])
+                && is_file(history, SECOND, files[1])
+                && is_file(history, THIRD, files[2])
+                && history.file(FOURTH).is_none()
                 && history.file(DRAFT).is_none()
         }
         None => false,
     }
 }
 
-// After four puts, of a solution, of the same, of a better one, and of bytes that are no file, there are two files.
+// After four puts, of a solution, of two that are slower and improve nothing, and of bytes that are no file, there are three
+// files.
 #[test]
-fn what_changes_a_collection(rt: HostRuntime) -> Result<(), Fail> {
+fn what_was_taken_and_is_readable(rt: HostRuntime) -> Result<(), Fail> {
     let inputs = [
         Input::Ask(4000, 0, WRQ),
-        Input::Recv(4000, 0, DATA_HUNDRED),
+        Input::Recv(4000, 0, DATA_NINETY),
         Input::Ask(4001, 0, WRQ),
         Input::Recv(4001, 0, DATA_HUNDRED),
         Input::Ask(4002, 0, WRQ),
-        Input::Recv(4002, 0, DATA_NINETY),
+        Input::Recv(4002, 0, DATA_UNREADABLE),
         Input::Ask(4003, 0, WRQ),
-        Input::Recv(4003, 0, DATA_UNREADABLE),
+        Input::Recv(4003, 0, DATA_HUNDRED),
     ];
     let history = history_of(rt.alloc(), &inputs)?;
-    assert!(rt; has_both(&history));
+    assert!(rt; has_three(&history, [NINETY, HUNDRED, HUNDRED]));
     Ok(())
 }
 
 // Lets a server with this history take the solution, and logs that here. Returns the history.
-fn record<H: Folder>(alloc: Global, sink: &Memory, history: H) -> Result<Option<H>, Fail>
+fn record<H: HistoryFolder>(alloc: Global, sink: &Memory, history: H) -> Result<Option<H>, Fail>
 where
     H: Drop,
 {
@@ -106,7 +111,11 @@ fn ends_with(sink: Memory, wanted: &str) -> bool {
 }
 
 // A put whose history fails from a call on: whether this is the last line, and the history.
-fn recorded<H: Folder>(alloc: Global, history: H, wanted: &str) -> Result<(bool, Option<H>), Fail>
+fn recorded<H: HistoryFolder>(
+    alloc: Global,
+    history: H,
+    wanted: &str,
+) -> Result<(bool, Option<H>), Fail>
 where
     H: Drop,
 {
@@ -130,6 +139,7 @@ fn recorded_until(alloc: Global, left: u64, wanted: &str) -> Result<(bool, bool)
 #[test]
 fn each_call_fails(rt: HostRuntime) -> Result<(), Fail> {
     let rows = [
+        "[ERROR tws] not recorded time=2026-11-27T09:15:00.123Z peer=0.0.0.2:5000 why=no folder for the day",
         "[ERROR tws] not recorded time=2026-11-27T09:15:00.123Z peer=0.0.0.2:5000 why=not looked up",
         "[ERROR tws] not recorded time=2026-11-27T09:15:00.123Z peer=0.0.0.2:5000 why=not created",
         "[ERROR tws] not recorded time=2026-11-27T09:15:00.123Z peer=0.0.0.2:5000 why=not created",
@@ -140,7 +150,7 @@ fn each_call_fails(rt: HostRuntime) -> Result<(), Fail> {
     ];
     for (left, wanted) in rows.iter().enumerate() {
         let found = recorded_until(rt.alloc(), left as u64, *wanted)?;
-        assert_eq!(rt; found, (true, left >= 5));
+        assert_eq!(rt; found, (true, left >= 6));
     }
     Ok(())
 }
@@ -159,9 +169,10 @@ impl Write for FullFile {
     }
 }
 
-// A folder without a model, each file of which takes no bytes, and how often the draft was removed.
+// A folder without a model, each file of which takes no bytes: whether its day was opened, and how often the draft was removed.
 #[derive(Drop)]
 struct FullHistory {
+    is_open: bool,
     cleared: u64,
     faults: u64,
 }
@@ -223,24 +234,33 @@ impl Folder for FullHistory {
     }
 }
 
-// Whether this is the last line of a put to such a folder, and how often the draft was removed.
-fn recorded_in_full(alloc: Global, wanted: &str) -> Result<(bool, u64), Fail> {
+impl HistoryFolder for FullHistory {
+    ghost is_open = { λ _ _. Unit {0} };
+
+    fn open_day(&mut self, day: &str) -> Result<(), CallFault> {
+        self.is_open = day == "2026-11-27";
+        Ok(())
+    }
+}
+
+// Whether this is the last line of a put to such a folder, whether its day was opened, and how often the draft was removed.
+fn recorded_in_full(alloc: Global, wanted: &str) -> Result<(bool, bool, u64), Fail> {
     let full = FullHistory {
+        is_open: false,
         cleared: 0,
         faults: 0,
     };
     let (is_last, history) = recorded(alloc, full, wanted)?;
-    let cleared = match history {
-        Some(history) => history.cleared,
-        None => 0,
-    };
-    Ok((is_last, cleared))
+    match history {
+        Some(history) => Ok((is_last, history.is_open, history.cleared)),
+        None => Ok((is_last, false, 0)),
+    }
 }
 
 #[test]
 fn a_write_fails(rt: HostRuntime) -> Result<(), Fail> {
     let wanted =
         "[ERROR tws] not recorded time=2026-11-27T09:15:00.123Z peer=0.0.0.2:5000 why=not written";
-    assert_eq!(rt; recorded_in_full(rt.alloc(), wanted)?, (true, 2));
+    assert_eq!(rt; recorded_in_full(rt.alloc(), wanted)?, (true, true, 2));
     Ok(())
 }

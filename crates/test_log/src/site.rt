@@ -1,9 +1,9 @@
 //! The clock, the sink and the history of the tests.
 
 // A table whose steps are logged, with a clock of its own.
+use archive_history::HistoryFolder;
 use archive_log::ServerLog;
 use archive_table::{Keeper, Observer, Table};
-use folders::Folder;
 use log::Log;
 use std::alloc::Global;
 use std::cell::Cell;
@@ -48,7 +48,7 @@ pub(crate) enum Input<'a> {
 }
 
 // Makes the step of an input, and logs it.
-pub(crate) fn log_step<C: Clock, L: Log, H: Folder, K: Keeper>(
+pub(crate) fn log_step<C: Clock, L: Log, H: HistoryFolder, K: Keeper>(
     table: &mut Table,
     keeper: &mut K,
     log: &mut ServerLog<C, L, H>,
@@ -72,7 +72,7 @@ pub(crate) fn log_step<C: Clock, L: Log, H: Folder, K: Keeper>(
 }
 
 // The same for inputs in order.
-pub(crate) fn log_steps<C: Clock, L: Log, H: Folder, K: Keeper>(
+pub(crate) fn log_steps<C: Clock, L: Log, H: HistoryFolder, K: Keeper>(
     table: &mut Table,
     keeper: &mut K,
     log: &mut ServerLog<C, L, H>,

@@ -1,41 +1,35 @@
-use Rattle.std.proofs.Common.{[], List, ℕ, Some, ap, ◌∙◌, subst}
+use Rattle.std.proofs.Common.{[], ℕ, List, OnOk, ◌∙◌, subst}
 use Rattle.std.proofs.lemmas.Result.{on_ok_weaker}
-use Rattle.std.specs.Prelude.{string_bytes}
-use Rattle.folders.specs.Folder.{Only}
-use Rattle.archive_history.specs.History.{draft_of}
+use Rattle.archive_history.specs.History.{HasNoFreeName, Records, RecordsForGood}
 use Rattle.archive_history.specs.declared.history_fault.HistoryFault.TheVariants.{SyncFolder}
-use Rattle.archive_history.proofs.Recording.{adds_by, adds_nothing_by, on_any_error}
+use Rattle.archive_history.proofs.Recording.{adds_nothing_unless, no_free_name_after, records_after, records_for_good_after}
 use Rattle.archive_history.proofs.history.record.Goals as goal
 
-pub returns-in_err-name-clause-failed : goal.returns-in_err-name-clause-failed
-returns-in_err-name-clause-failed g c = λ modelled undoes. on_any_error c.from_residual.result SyncFolder _ ([], λ other nd. c.free_name.ensures.same modelled other)
+pub returns-in-Ok-clause-recorded : goal.returns-in-Ok-clause-recorded
+returns-in-Ok-clause-recorded g c = λ modelled.
+    let m = g.F.Folder.model in
+    let stem-is = c.as_str-in-Ok.ensures.value ∙ c.in_ok-stem.ensures in
+    let same = c.open_day.ensures.all modelled in
+    subst (λ (stem : List ℕ). OnOk c.record_under.result (RecordsForGood m stem c.args.file.now c.args.folder.now c.record_under.new.folder)) stem-is
+    (on_ok_weaker c.record_under.result (records_for_good_after m c.as_str-in-Ok.result.now same) (c.record_under.ensures.recorded modelled))
 
-pub returns-in_err-draft-clause-failed : goal.returns-in_err-draft-clause-failed
-returns-in_err-draft-clause-failed g c = λ modelled undoes. on_any_error c.from_residual-in_err-draft.result SyncFolder _ ([], λ other nd. c.free_name.ensures.same modelled other)
+pub returns-in-Ok-clause-unsynced : goal.returns-in-Ok-clause-unsynced
+returns-in-Ok-clause-unsynced g c = λ modelled is.
+    let m = g.F.Folder.model in
+    let stem-is = c.as_str-in-Ok.ensures.value ∙ c.in_ok-stem.ensures in
+    subst (λ (stem : List ℕ). Records m stem c.args.file.now c.args.folder.now c.record_under.new.folder) stem-is
+    (records_after m c.as_str-in-Ok.result.now (c.open_day.ensures.all modelled) (c.record_under.ensures.unsynced modelled is))
 
-pub returns-clause-recorded : goal.returns-clause-recorded
-returns-clause-recorded g c = λ modelled.
-    let draft-is = c.as_str-2.ensures.value ∙ c.in_ok-draft.ensures ∙ ap draft_of c.as_str.ensures.value in
-    let number = c.in_ok-name.ensures.number in
-    on_ok_weaker c.publish_file.result
-    (λ has. (
-      number.0,
-      adds_by g.F.Folder.model c.args.stem.now number.0 c.as_str-3.ensures.value draft-is number.1 (c.in_ok-name.ensures.free modelled) (c.free_name.ensures.same modelled)
-          (c.publish_file.ensures.others modelled) has.now,
-      subst (λ (name : List ℕ). Only (Some c.args.file.now) (g.F.Folder.model.leaves c.publish_file.new.folder name)) (c.as_str-3.ensures.value ∙ number.1) has.left,
-    ))
-    (c.publish_file.ensures.kept modelled)
+pub returns-in-Ok-clause-failed : goal.returns-in-Ok-clause-failed
+returns-in-Ok-clause-failed g c = λ modelled undoes.
+    adds_nothing_unless g.F.Folder.model c.record_under.result SyncFolder c.record_under.new.folder (c.open_day.ensures.all modelled) (c.record_under.ensures.failed modelled undoes)
 
-pub returns-clause-unsynced : goal.returns-clause-unsynced
-returns-clause-unsynced g c = λ modelled is.
-    let draft-is = c.as_str-2.ensures.value ∙ c.in_ok-draft.ensures ∙ ap draft_of c.as_str.ensures.value in
-    let number = c.in_ok-name.ensures.number in (
-      number.0,
-      adds_by g.F.Folder.model c.args.stem.now number.0 c.as_str-3.ensures.value draft-is number.1 (c.in_ok-name.ensures.free modelled) (c.free_name.ensures.same modelled)
-          (c.publish_file.ensures.others modelled) (c.publish_file.ensures.unsynced modelled is).now,
-    )
+pub returns-in-Ok-clause-full : goal.returns-in-Ok-clause-full
+returns-in-Ok-clause-full g c = λ modelled is.
+    let m = g.F.Folder.model in
+    let stem-is = c.as_str-in-Ok.ensures.value ∙ c.in_ok-stem.ensures in
+    subst (λ (stem : List ℕ). HasNoFreeName m stem c.args.folder.now) stem-is
+    (no_free_name_after m c.as_str-in-Ok.result.now (c.open_day.ensures.all modelled) (c.record_under.ensures.full modelled is))
 
 pub returns-clause-failed : goal.returns-clause-failed
-returns-clause-failed g c = λ modelled undoes.
-    adds_nothing_by g.F.Folder.model c.publish_file.result SyncFolder c.publish_file.new.folder (string_bytes c.in_ok-name.name) (c.as_str-2.ensures.value ∙ c.in_ok-draft.ensures ∙ ap draft_of c.as_str.ensures.value)
-    (c.free_name.ensures.same modelled) (c.publish_file.ensures.failed modelled undoes)
+returns-clause-failed g c = λ modelled undoes early. ([], λ other nd. c.open_day.ensures.all modelled other)

@@ -2,4 +2,4 @@ use Rattle.archive_host.specs.Dealing.{AreFrom}
 use Rattle.archive_host.proofs.port_deck.all_ports.Given as goal
 
 abbrev pub invariant-loop-i : goal.invariant-loop-i
-invariant-loop-i l = AreFrom l.ports.items l.i
+invariant-loop-i l = AreFrom l.first l.ports.items l.i
