@@ -11,7 +11,7 @@ use Rattle.command_line.specs.declared.tool_fault.ToolFault.{ToolFault}
 use Rattle.command_line.specs.Arguments.{HasRuleset, HasSources, RulesetNames, files_rule, ruleset_rule}
 use Rattle.show_commands.specs.Output.{output_rule}
 use Rattle.file_commands.specs.declared.best.BestArguments.{BestArguments}
-use Rattle.file_commands.specs.SeveralInputs.{AreReported, FilesFail, FilesRanFrom}
+use Rattle.show_commands.specs.SeveralInputs.{AreReported, FilesFail, FilesRanFrom}
 
 abbrev pub best_name : Text
 best_name = codes "best"

@@ -1,5 +1,3 @@
-pub mod Opening
-pub mod SeveralInputs
 pub mod Without
 pub mod Best
 pub mod Compare

@@ -1,15 +1,15 @@
 -- The command `page`, which writes the solutions of all its inputs as a page.
-use Rattle.std.specs.Prelude.{◌≡◌, ℕ, List, [], ◌∷◌, Option, IfSome, codes, option_map, string_bytes}
+use Rattle.std.specs.Prelude.{◌≡◌, ℕ, List, Option, codes, option_map, string_bytes}
 use Rattle.std.specs.Io.KnownBytes.{Appends}
 use Rattle.clap.specs.Words.{App, Row, Text, first_of, new_app, with_rule}
-use Rattle.tws_file.specs.Text.{File, IsText}
+use Rattle.tws_file.specs.Text.{File}
 use Rattle.byte_output.specs.Output.{AppendsPrefix}
 use Rattle.tws_tables.specs.Page.{page_of}
 use Rattle.show_commands.specs.Output.{output_rule}
 use Rattle.file_commands.specs.declared.page.PageArguments.{PageArguments}
 use Rattle.command_line.specs.declared.tool_fault.ToolFault.{ToolFault}
 use Rattle.command_line.specs.Arguments.{HasSources, files_rule}
-use Rattle.file_commands.specs.SeveralInputs.{FilesFail, FilesRanFrom}
+use Rattle.show_commands.specs.SeveralInputs.{AreFiles, FilesFail, FilesRanFrom}
 
 abbrev pub page_name : Text
 page_name = codes "page"
@@ -22,13 +22,6 @@ page_app = with_rule (with_rule (new_app page_name) files_rule) output_rule
 pub record AsksForPage (rows : List Row) (arguments : PageArguments) : Type 0 where
   pub files_are : HasSources rows arguments.files.items
   pub output_is : option_map string_bytes arguments.output ≡ first_of output_rule.id rows
-
--- these are the files whose texts the inputs are
-abbrev pub AreFiles : List (Option (List ℕ)) → List File → Type 0
-AreFiles [] [] = Unit {0}
-AreFiles [] (file ∷ files) = ⊥
-AreFiles (known ∷ knowns) [] = ⊥
-AreFiles (known ∷ knowns) (file ∷ files) = IfSome known (λ (bytes : List ℕ). IsText bytes file) × AreFiles knowns files
 
 -- the page of the files was written
 abbrev pub PageWrites : List (Option (List ℕ)) → (old new : Option (List ℕ)) → Type 0

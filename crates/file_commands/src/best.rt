@@ -8,16 +8,16 @@ ghost use Rattle.clap.specs.Words.{app_of, rows_of};
 ghost use Rattle.clap.specs.declared.builder.command.Command.TheViews.{out-Command};
 ghost use Rattle.command_line.specs.Arguments.{Answers};
 ghost use Rattle.file_commands.specs.Best.{AsksForBest, Collects, BestWrites, BestPrefix, BestFails, BestRan, best_app};
-ghost use Rattle.file_commands.specs.SeveralInputs.{AreReadOut, CollectFails};
+ghost use Rattle.show_commands.specs.SeveralInputs.{AreReadOut, CollectFails};
 ghost use Rattle.file_commands.specs.Knowing.{best_prefix_less, best_writes_less};
 
-use crate::arguments::files_argument;
-use crate::several_inputs::{SeveralInputsCommand, run_several_inputs};
 use clap::{ArgMatches, Command};
 use command_line::{
     Source, ToolFault, new_command, ruleset_argument, ruleset_given, sources_given, string_given,
 };
-use show_commands::{output_argument, read_input};
+use show_commands::{
+    SeveralInputsCommand, files_argument, output_argument, read_input, run_several_inputs,
+};
 use std::alloc::{AllocError, Global};
 use std::io::{Read, Write};
 use std::mem;

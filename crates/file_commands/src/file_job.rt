@@ -21,7 +21,7 @@ use system_files::FileSystem;
 /// What a command on files is asked to do.
 #[derive(Drop)]
 pub enum FileJob {
-    /// To list a solution file, or to write its solutions as comma-separated values.
+    /// To list solution files, or to write their solutions as comma-separated values.
     Show(ShowArguments),
     /// To write a solution file with its moves in the fewest bytes.
     Pack(PackArguments),

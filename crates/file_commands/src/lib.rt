@@ -1,21 +1,16 @@
 //! The commands `without`, `best`, `compare` and `page` of the program `tws`, over any reader and writer, and the list of all
-//! commands on files (`file_job.rt`). Read `specs/FileJobs.antt` first, then `specs/SeveralInputs.antt`, which says what `best`
-//! and `page` have in common, and for a command the file of its name. `specs/Knowing.antt` has only lemmas. The crate's README shows how it is called.
+//! commands on files (`file_job.rt`). Read `specs/FileJobs.antt` first, then `specs/SeveralInputs.antt` of `show_commands`, which
+//! says what `best` and `page` have in common, and for a command the file of its name. `specs/Knowing.antt` has only lemmas. The crate's README shows how it is called.
 //!
 //! Each command is a module with `command`, its command line, `asked`, what its arguments ask for, and `run`, which
 //! does that, beside a function over any reader and writer, such as `run_best`. `best` and `page` are run by
-//! `several_inputs.rt`, and `without`, as the commands of `show_commands`, by `run_one_input`.
+//! `run_several_inputs`, and `without`, as the commands of `show_commands` over one file, by `run_one_input`.
 #![tactic(auto)]
 
-mod arguments;
 pub mod best;
 pub mod compare;
 mod file_job;
-mod opening;
 pub mod page;
-mod reporting;
-mod several_inputs;
-mod standard;
 pub mod without;
 
 pub use best::{BestArguments, run_best};

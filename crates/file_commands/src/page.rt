@@ -6,20 +6,19 @@ ghost use Rattle.std.specs.Io.KnownBytes.{IsAtEnd};
 ghost use Rattle.clap.specs.Matches.{found_of};
 ghost use Rattle.clap.specs.Words.{app_of, rows_of};
 ghost use Rattle.clap.specs.declared.builder.command.Command.TheViews.{out-Command};
-ghost use Rattle.file_commands.specs.SeveralInputs.{AreReadOut, CollectFails};
-ghost use Rattle.file_commands.specs.Page.{AreFiles, AsksForPage, PageFails, PagePrefix, PageRan, PageWrites, page_app};
+ghost use Rattle.show_commands.specs.SeveralInputs.{AreReadOut};
+ghost use Rattle.file_commands.specs.Page.{AsksForPage, PageFails, PagePrefix, PageRan, PageWrites, page_app};
 ghost use Rattle.command_line.specs.Faults.{IsBeforeOutput};
 ghost use Rattle.file_commands.specs.Knowing.{page_prefix_less, page_writes_less};
 
-use crate::arguments::files_argument;
-use crate::several_inputs::{SeveralInputsCommand, run_several_inputs};
 use clap::{ArgMatches, Command};
 use command_line::{Source, ToolFault, new_command, sources_given, string_given};
-use show_commands::{output_argument, read_input};
+use show_commands::{
+    SeveralInputsCommand, files_argument, output_argument, read_inputs, run_several_inputs,
+};
 use std::alloc::{AllocError, Global};
 use std::io::{Read, Write};
 use system_files::FileSystem;
-use tws_file::TwsFile;
 use tws_tables::write_page;
 
 /// What `page` is asked for.
@@ -64,21 +63,6 @@ pub fn asked(alloc: Global, words: &ArgMatches) -> Result<PageArguments, AllocEr
     Ok(PageArguments { files, output })
 }
 
-// The solution files in all inputs, each of which is read to its end.
-fn read_all<R: Read>(alloc: Global, inputs: &mut [R]) -> Result<Vec<TwsFile>, ToolFault>
-    ensures end { OnOk result (AllByRecursion (λ input. IsAtEnd (R.remaining input)) inputs.new) }
-    ensures read { IfOk result (λ files. AreFiles (map (λ input. R.remaining input) inputs.old) files.items) }
-    ensures fails { IfErr result (CollectFails (map (λ input. R.remaining input) inputs.old)) }
-    ensures unreadable { IfErr result (AreReadOut (λ input. R.remaining input) inputs.new) }
-{
-    let mut files = Vec::new(alloc);
-    for index in 0..inputs.len() {
-        let file = read_input(alloc, index, &mut inputs[index])?;
-        files.push(file)?;
-    }
-    Ok(files)
-}
-
 /// Reads solution files to their ends, in order, and writes the page of them.
 ///
 /// # Errors
@@ -99,7 +83,7 @@ pub fn run_page<R: Read, W: Write>(
     // Holds also for a writer without ghost contents.
     ensures unwritten { IfErr result (λ e. IsBeforeOutput e → out.new ≡ out.old) }
 {
-    let files = read_all(alloc, inputs)?;
+    let files = read_inputs(alloc, inputs)?;
     write_page(alloc, &files, out)?;
     Ok(())
 }

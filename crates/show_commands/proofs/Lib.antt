@@ -1,1 +1,4 @@
 pub mod Statuses
+pub mod Collecting
+pub mod Sources
+pub mod Showing

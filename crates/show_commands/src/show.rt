@@ -1,21 +1,24 @@
 //! The command `show`.
 
-ghost use Rattle.std.specs.Prelude.{◌≡◌, ◌≢◌, ◌≤◌, false, OnOk, IfOk, IfErr};
+ghost use Rattle.std.specs.Prelude.{◌≡◌, ◌≢◌, ◌≤◌, false, [], OnOk, IfOk, IfErr, unwrap_or};
 ghost use Rattle.std.specs.Io.KnownBytes.{IsAtEnd};
 ghost use Rattle.clap.specs.Matches.{found_of};
+ghost use Rattle.clap.specs.Walk.{all_of};
 ghost use Rattle.clap.specs.Words.{app_of, rows_of, rule_of};
 ghost use Rattle.clap.specs.declared.builder.command.Command.TheViews.{out-Command};
 ghost use Rattle.tws_tables.specs.Listing.{listing_of};
 ghost use Rattle.tws_tables.specs.Csv.{csv_of};
-ghost use Rattle.show_commands.specs.Show.{AsksToShow, ShowRan, csv_rule, listing_app, moves_rule, show_app, shown_text};
+ghost use Rattle.show_commands.specs.Show.{AreShown, AsksToShow, ShowRan, csv_rule, listing_app, moves_rule, show_app, shown_rule, shown_text};
 ghost use Rattle.command_line.specs.Faults.{IsBeforeOutput, IsReadOut};
 ghost use Rattle.show_commands.specs.Written.{Writes, WriteFails};
 
+use crate::arguments::files_argument;
 use crate::input::read_input;
 use crate::one_input::{OneInputCommand, run_one_input};
 use crate::output::output_argument;
+use crate::several_inputs::run_several_inputs;
 use clap::{Arg, ArgAction, ArgMatches, Command};
-use command_line::{Source, ToolFault, new_command, source_argument, source_given, string_given};
+use command_line::{Source, ToolFault, new_command, sources_given, string_given};
 use std::alloc::{AllocError, Global};
 use std::io::{Read, Write};
 use system_files::FileSystem;
@@ -24,14 +27,24 @@ use tws_tables::{show, write_csv};
 /// What `show` is asked for.
 #[derive(Drop)]
 pub struct ShowArguments {
-    /// The solution file.
-    pub source: Source,
+    /// The solution files, which standard input may be among.
+    pub files: Vec<Source>,
     /// Whether each move gets a line.
     pub moves: bool,
     /// Whether to write comma-separated values, in which there are no lines for moves.
     pub csv: bool,
     /// The file that is written in place of standard output, if one was named.
     pub output: Option<String>,
+}
+
+// `[FILE..]`: the inputs, which may be left out.
+fn shown_argument<'a>(alloc: Global) -> Arg<'a>
+    ensures rule { rule_of result ≡ shown_rule }
+    ensures local { result.global ≡ false }
+{
+    files_argument(alloc).required(false).help(
+        "The solution files; standard input if none is given, and for -",
+    )
 }
 
 fn moves_argument<'a>(alloc: Global) -> Arg<'a>
@@ -55,10 +68,10 @@ fn csv_argument<'a>(alloc: Global) -> Arg<'a>
 }
 
 // What the help of the command begins and ends with.
-const ABOUT: &str = "List a solution file";
+const ABOUT: &str = "List solution files";
 
 const HELP: &str =
-    "Writes a line for the header, one for each record, and one for their number.\n\nExample: tws show --moves mine.tws";
+    "Writes a line for the header, one for each record, and one for their number; of several files, each after the first below its name.\n\nExample: tws show --moves mine.tws";
 
 // The command without its option for the output.
 fn listing_command<'a>(alloc: Global) -> Result<Command<'a>, AllocError>
@@ -66,7 +79,7 @@ fn listing_command<'a>(alloc: Global) -> Result<Command<'a>, AllocError>
     ensures local { IfOk result (λ command. (out-Command command).has_globals ≡ false) }
 {
     new_command(alloc, "show", ABOUT, HELP)
-        .arg(source_argument(alloc))?
+        .arg(shown_argument(alloc))?
         .arg(moves_argument(alloc))?
         .arg(csv_argument(alloc))
 }
@@ -83,6 +96,17 @@ pub fn command<'a>(alloc: Global) -> Result<Command<'a>, AllocError>
     listing_command(alloc)?.arg(output_argument(alloc))
 }
 
+// The inputs that were named, in order; standard input if none was.
+fn files_given(alloc: Global, words: &ArgMatches) -> Result<Vec<Source>, AllocError>
+    ensures { IfOk result (λ files. AreShown (unwrap_or (all_of shown_rule.id (rows_of (found_of words.now))) []) files.items) }
+{
+    let mut files = sources_given(alloc, words)?;
+    if files.len() == 0 {
+        files.push(Source::Standard)?;
+    }
+    Ok(files)
+}
+
 /// What the arguments ask for.
 ///
 /// # Errors
@@ -91,12 +115,12 @@ pub fn command<'a>(alloc: Global) -> Result<Command<'a>, AllocError>
 pub fn asked(alloc: Global, words: &ArgMatches) -> Result<ShowArguments, AllocError>
     ensures { IfOk result (AsksToShow (rows_of (found_of words.now))) }
 {
-    let source = source_given(alloc, words)?;
+    let files = files_given(alloc, words)?;
     let moves = words.get_flag("moves");
     let csv = words.get_flag("csv");
     let output = string_given(alloc, words, "output")?;
     Ok(ShowArguments {
-        source,
+        files,
         moves,
         csv,
         output,
@@ -168,7 +192,8 @@ impl OneInputCommand for ShowArguments {
     }
 }
 
-/// Runs `show` over this output, whatever its arguments say of one, and returns the exit status, which is that of `run_one_input`.
+/// Runs `show` over this output, whatever its arguments say of one, and returns the exit status, which is that of `run_one_input`
+/// for one file, and otherwise that of `run_several_inputs`.
 pub fn run<S: FileSystem, R: Read, W: Write, E: Write>(
     system: &S,
     alloc: Global,
@@ -184,6 +209,9 @@ pub fn run<S: FileSystem, R: Read, W: Write, E: Write>(
     ensures unreadable { result ≡ 3 → out.new ≡ out.old }
     ensures silent { result ≡ 0 → errors.new ≡ errors.old }
 {
-    let source = &arguments.source;
-    run_one_input(arguments, system, alloc, source, input, out, errors)
+    let sources = &arguments.files;
+    if sources.len() == 1 {
+        return run_one_input(arguments, system, alloc, &sources[0], input, out, errors);
+    }
+    run_several_inputs(arguments, system, alloc, sources, input, out, errors)
 }

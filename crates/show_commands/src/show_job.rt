@@ -17,12 +17,12 @@ use std::alloc::{AllocError, Global};
 use std::io::{Read, Write};
 use system_files::FileSystem;
 
-/// What a command of one solution file is asked to do.
+/// What a command here is asked to do.
 #[derive(Drop)]
 pub enum ShowJob {
-    /// To list it, or to write its solutions as comma-separated values.
+    /// To list solution files, or to write their solutions as comma-separated values.
     Show(ShowArguments),
-    /// To write it with its moves in the fewest bytes.
+    /// To write a solution file with its moves in the fewest bytes.
     Pack(PackArguments),
 }
 

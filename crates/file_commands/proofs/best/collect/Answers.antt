@@ -2,7 +2,8 @@ use Rattle.std.proofs.Common.{ℕ, List, Option, arith, refl, sym, subst, map, t
 use Rattle.std.proofs.lemmas.Result.{err_from_is_err_and}
 use Rattle.tws_file.specs.Text.{IsText}
 use Rattle.command_line.specs.Faults.{ReadFails}
-use Rattle.file_commands.proofs.Collecting.{collects_none, collects_more, known_more, input_fails, all_collected, one_more_ended, others_stay, set_count, read_out}
+use Rattle.show_commands.proofs.Collecting.{input_fails, known_more, one_more_ended, others_stay, read_out, set_count}
+use Rattle.file_commands.proofs.Collecting.{all_collected, collects_more, collects_none}
 use Rattle.file_commands.proofs.best.collect.Goals as goal
 
 pub loop-index-init : goal.loop-index-init

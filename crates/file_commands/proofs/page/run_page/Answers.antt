@@ -1,7 +1,7 @@
 use Rattle.std.proofs.Common.{List, sym, subst, map}
 use Rattle.std.proofs.lemmas.Result.{err_from_is_err_and}
 use Rattle.tws_file.specs.Text.{File}
-use Rattle.file_commands.specs.Page.{AreFiles}
+use Rattle.show_commands.specs.SeveralInputs.{AreFiles}
 use Rattle.file_commands.proofs.Paging.{page_fails}
 use Rattle.file_commands.proofs.page.run_page.Goals as goal
 

@@ -3,8 +3,8 @@
 ghost use Rattle.std.specs.Prelude.{◌≡◌, Some, length, map, IfOk, IfErr};
 ghost use Rattle.either.specs.Either.{either};
 ghost use Rattle.command_line.specs.Inputs.{known_of, knowns_of};
-ghost use Rattle.file_commands.specs.Opening.{IsWithin};
-ghost use Rattle.file_commands.specs.declared.opening.NotOpened.TheVariants as NotOpened;
+ghost use Rattle.show_commands.specs.Opening.{IsWithin};
+ghost use Rattle.show_commands.specs.declared.opening.NotOpened.TheVariants as NotOpened;
 
 use command_line::Source;
 use either::Either;

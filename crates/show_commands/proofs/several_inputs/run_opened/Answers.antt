@@ -1,9 +1,9 @@
 use Rattle.std.proofs.Common.{◌≡◌, ◌∙◌, ℕ, List, Option, Some, map, OnOk, IfErr, ap, sym, subst}
 use Rattle.either.specs.Either.{either}
 use Rattle.command_line.specs.Inputs.{knowns_of}
-use Rattle.file_commands.specs.SeveralInputs.{FilesFail, FilesRan}
-use Rattle.file_commands.proofs.Collecting.{files_ran}
-use Rattle.file_commands.proofs.several_inputs.run_opened.Goals as goal
+use Rattle.show_commands.specs.SeveralInputs.{FilesFail, FilesRan}
+use Rattle.show_commands.proofs.Collecting.{files_ran}
+use Rattle.show_commands.proofs.several_inputs.run_opened.Goals as goal
 
 pub returns-in-Ok-clause-ran : goal.returns-in-Ok-clause-ran
 returns-in-Ok-clause-ran g c =

@@ -1,8 +1,8 @@
 use Rattle.std.proofs.Common.{◌≡◌, length, take, drop, map}
 use Rattle.std.specs.List.{AllByRecursion}
 use Rattle.std.specs.Io.KnownBytes.{IsAtEnd}
-use Rattle.file_commands.specs.Page.{AreFiles}
-use Rattle.file_commands.proofs.page.read_all.Given as goal
+use Rattle.show_commands.specs.SeveralInputs.{AreFiles}
+use Rattle.show_commands.proofs.inputs.read_inputs.Given as goal
 
 -- the first inputs were read; the others are unchanged
 abbrev pub invariant-loop-index : goal.invariant-loop-index

@@ -3,8 +3,8 @@ use Rattle.std.proofs.Common.{◌≡◌, ℕ, false, List, [], ◌∷◌, Option
 use Rattle.command_line.specs.declared.source.Source.{Source}
 use Rattle.command_line.specs.declared.source.Source.TheVariants.{Standard, Named}
 use Rattle.command_line.specs.Inputs.{has_standard, knowns_of}
-use Rattle.file_commands.specs.SeveralInputs.{AreLessKnown, FilesRan}
-use Rattle.file_commands.specs.Knowing.{reported_less}
+use Rattle.show_commands.specs.SeveralInputs.{AreLessKnown, FilesRan}
+use Rattle.show_commands.specs.Knowing.{reported_less}
 
 module _ (bytes_of : List ℕ → Option (List ℕ)) where
   -- what standard input had makes no difference to inputs among which it is not

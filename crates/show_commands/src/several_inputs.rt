@@ -3,7 +3,7 @@
 ghost use Rattle.std.specs.Prelude.{◌≡◌, ◌≢◌, ◌≤◌, ℕ, List, Option, Some, map, OnOk, IfErr};
 ghost use Rattle.command_line.specs.Faults.{IsBeforeOutput};
 ghost use Rattle.command_line.specs.Inputs.{knowns_of};
-ghost use Rattle.file_commands.specs.SeveralInputs.{AreLessKnown, FilesFail, FilesRan, FilesRanFrom};
+ghost use Rattle.show_commands.specs.SeveralInputs.{AreLessKnown, FilesFail, FilesRan, FilesRanFrom};
 
 use crate::opening::{NotOpened, open_all};
 use crate::reporting::{finish_among, report_unopened};
@@ -14,7 +14,7 @@ use std::io::{Read, Write};
 use system_files::FileSystem;
 
 /// A command that reads several solution files and writes one text of all of them.
-pub(crate) trait SeveralInputsCommand {
+pub trait SeveralInputsCommand {
     /// The text of inputs of which this is known was written.
     ghost writes: { Self → List (Option (List ℕ)) → (old new : Option (List ℕ)) → Type 0 };
 
@@ -77,13 +77,7 @@ fn run_opened<C: SeveralInputsCommand, S: FileSystem, W: Write, E: Write>(
 ///
 /// Files are opened by their names in `system`, all of them before one is read. Standard input, if it is among the
 /// inputs, is read whole before any other, and is the same each time that it is named.
-pub(crate) fn run_several_inputs<
-    C: SeveralInputsCommand,
-    S: FileSystem,
-    R: Read,
-    W: Write,
-    E: Write,
->(
+pub fn run_several_inputs<C: SeveralInputsCommand, S: FileSystem, R: Read, W: Write, E: Write>(
     command: &C,
     system: &S,
     alloc: Global,

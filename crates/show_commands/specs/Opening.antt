@@ -1,7 +1,7 @@
 -- Several inputs that are opened.
 use Rattle.std.specs.Prelude.{◌<◌, ℕ}
-use Rattle.file_commands.specs.declared.opening.NotOpened.{NotOpened}
-use Rattle.file_commands.specs.declared.opening.NotOpened.TheVariants.{Memory, File}
+use Rattle.show_commands.specs.declared.opening.NotOpened.{NotOpened}
+use Rattle.show_commands.specs.declared.opening.NotOpened.TheVariants.{Memory, File}
 
 -- a file that was not opened is one of so many
 abbrev pub IsWithin : (count : ℕ) → NotOpened → Type 0

@@ -1,7 +1,7 @@
 use Rattle.std.proofs.Common.{◌≡◌, Some, map, take}
 use Rattle.either.specs.Either.{either}
 use Rattle.command_line.specs.Inputs.{knowns_of}
-use Rattle.file_commands.proofs.opening.open_all.Given as goal
+use Rattle.show_commands.proofs.opening.open_all.Given as goal
 
 -- the inputs of the first sources are open
 abbrev pub invariant-loop-index : goal.invariant-loop-index

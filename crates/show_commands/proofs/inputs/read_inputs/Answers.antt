@@ -2,9 +2,8 @@ use Rattle.std.proofs.Common.{ℕ, List, Option, arith, sym, subst, map, take, I
 use Rattle.std.proofs.lemmas.Result.{err_from_is_err_and}
 use Rattle.tws_file.specs.Text.{IsText}
 use Rattle.command_line.specs.Faults.{ReadFails}
-use Rattle.file_commands.proofs.Collecting.{known_more, input_fails, one_more_ended, others_stay, set_count, read_out}
-use Rattle.file_commands.proofs.Paging.{all_files, are_readable, files_more}
-use Rattle.file_commands.proofs.page.read_all.Goals as goal
+use Rattle.show_commands.proofs.Collecting.{all_files, are_readable, files_more, input_fails, known_more, one_more_ended, others_stay, read_out, set_count}
+use Rattle.show_commands.proofs.inputs.read_inputs.Goals as goal
 
 pub returns-in_err-file-clause-fails : goal.returns-in_err-file-clause-fails
 returns-in_err-file-clause-fails g c =

@@ -8,7 +8,7 @@ use clap::Arg;
 use std::alloc::Global;
 
 /// `FILE..`: the inputs of a command.
-pub(crate) fn files_argument<'a>(alloc: Global) -> Arg<'a>
+pub fn files_argument<'a>(alloc: Global) -> Arg<'a>
     ensures rule { rule_of result ≡ files_rule }
     ensures local { result.global ≡ false }
 {

@@ -1,8 +1,8 @@
 use Rattle.std.proofs.Common.{◌≡◌, ◌∙◌, ℕ, true, false, List, [], Option, Some, IfSome, refl, sym, subst, true≢false}
 use Rattle.command_line.specs.Inputs.{has_standard, knowns_of}
-use Rattle.file_commands.specs.SeveralInputs.{FilesRan}
-use Rattle.file_commands.proofs.Sources.{knowns_read, knowns_without, ran_less}
-use Rattle.file_commands.proofs.several_inputs.run_several_inputs.Goals as goal
+use Rattle.show_commands.specs.SeveralInputs.{FilesRan}
+use Rattle.show_commands.proofs.Sources.{knowns_read, knowns_without, ran_less}
+use Rattle.show_commands.proofs.several_inputs.run_several_inputs.Goals as goal
 
 pub returns-then-not-has_standard-clause-ran : goal.returns-then-not-has_standard-clause-ran
 returns-then-not-has_standard-clause-ran g c =

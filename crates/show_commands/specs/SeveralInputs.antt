@@ -3,7 +3,7 @@ use Rattle.std.specs.Prelude.{◌≡◌, ◌≢◌, ◌⊎◌, ℕ, ◌+◌, ◌
 use Rattle.std.specs.List.{AllByRecursion}
 use Rattle.std.specs.Io.KnownBytes.{IsAtEnd}
 use Rattle.tws_file.specs.declared.file_fault.FileFault.{FileFault}
-use Rattle.tws_file.specs.Text.{IsReadable}
+use Rattle.tws_file.specs.Text.{File, IsReadable, IsText}
 use Rattle.tws_file.specs.Fault.{HasFileFault}
 use Rattle.command_line.specs.declared.source.Source.{Source}
 use Rattle.command_line.specs.declared.tool_fault.ToolFault.{ToolFault}
@@ -25,6 +25,13 @@ AreLessKnown [] [] = Unit {0}
 AreLessKnown [] (left ∷ less) = ⊥
 AreLessKnown (known ∷ more) [] = ⊥
 AreLessKnown (known ∷ more) (left ∷ less) = IfSome left (λ (bytes : List ℕ). known ≡ Some bytes) × AreLessKnown more less
+
+-- these are the files whose texts the inputs are
+abbrev pub AreFiles : List (Option (List ℕ)) → List File → Type 0
+AreFiles [] [] = Unit {0}
+AreFiles [] (file ∷ files) = ⊥
+AreFiles (known ∷ knowns) [] = ⊥
+AreFiles (known ∷ knowns) (file ∷ files) = IfSome known (λ (bytes : List ℕ). IsText bytes file) × AreFiles knowns files
 
 -- ---- why they were not all read
 
