@@ -1,7 +1,10 @@
 pub mod Addresses
 pub mod Fetching
+pub mod Files
 pub mod Listening
 pub mod Listing
+pub mod Plans
+pub mod Ranges
 pub mod Sending
 pub mod Statuses
 pub mod Syncs

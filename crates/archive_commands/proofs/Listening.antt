@@ -1,6 +1,5 @@
 -- What `serve` did, by its result.
-use Rattle.std.proofs.Common.{◌≡◌, ℕ, ◌+◌, ◌<◌, ◌≤◌, Bool, true, false, List, Option, Some, None, Result, Ok, Err, OnOk, IfErr, ◌⊎◌, refl, arith, ap, sym, subst, ◌∙◌, inl, inr, ⊎_elim}
-use Rattle.archive_table.specs.declared.limits.TheConstants.{LIVE}
+use Rattle.std.proofs.Common.{◌≡◌, ℕ, ◌+◌, ◌<◌, ◌≤◌, Bool, true, false, List, Option, Some, None, Result, Ok, Err, OnOk, IfErr, ◌⊎◌, refl, arith, sym, subst, inl, inr, ⊎_elim}
 use Rattle.archive_table.specs.Keeper.{Keeping}
 use Rattle.archive_table.specs.Table.{Table}
 use Rattle.archive_server.specs.declared.policies.Policies.{Policies}
@@ -13,7 +12,7 @@ use Rattle.archive_commands.specs.declared.turn_limit.TurnLimit.{TurnLimit}
 use Rattle.archive_commands.specs.declared.serve.ServeArguments.{ServeArguments}
 use Rattle.command_line.specs.declared.tool_fault.ToolFault.{ToolFault}
 use Rattle.command_line.specs.declared.tool_fault.ToolFault.TheVariants.{Read, Write, Unreadable, Memory, Socket, Transfer}
-use Rattle.archive_commands.specs.Serve.{IsLimitFor, HasHost, HasPolicies, HasPutters, IsNoHost, IsNoPutters, given_putters, RunsUpToWhile, ServeRan, ServedFrom, begun_when, count_of, given_address, turn_of, ServeEnds, ServeFails, Served, ServerServed, Serves}
+use Rattle.archive_commands.specs.Serve.{IsLimitFor, HasHost, HasPolicies, HasPutters, IsNoHost, IsNoPutters, given_putters, RunsUpToWhile, ServeRan, ServedFrom, begun_when, count_of, given_address, turn_of, ServeEnds, ServeFails, Served, ServerServed}
 use Rattle.command_line.specs.Faults.{answer_status, status_of}
 use Rattle.archive_commands.specs.Lines.{LineFails, serving_line, taken_line}
 

@@ -2,7 +2,7 @@
 use Rattle.std.proofs.Common.{◌≡◌, ◌≢◌, ◌≤◌, ℕ, List, Option, Some, None, Result, Ok, Err, OnOk, IfErr, refl, arith, inl}
 use Rattle.command_line.specs.declared.tool_fault.ToolFault.{ToolFault}
 use Rattle.command_line.specs.declared.tool_fault.ToolFault.TheVariants.{Read, Write, Unreadable, Memory, Socket, Transfer}
-use Rattle.command_line.specs.Faults.{answer_status, status_of}
+use Rattle.command_line.specs.Faults.{answer_status}
 use Rattle.archive_commands.specs.Lines.{IsCutText, Says, Transfers, Unsaid}
 
 -- ---- transfers

@@ -1,5 +1,5 @@
 -- How the bytes of an input are taken as they come.
-use Rattle.std.proofs.Common.{◌≡◌, ◌≢◌, ◌⊎◌, ℕ, ◌+◌, ◌≤◌, ◌<◌, List, [], ◌++◌, length, Option, None, Some, IfSome, refl, ap, sym, subst, ◌∙◌, arith, inl, inr, ⊎_elim, length-append}
+use Rattle.std.proofs.Common.{◌≡◌, ◌≢◌, ◌⊎◌, ℕ, ◌+◌, ◌≤◌, ◌<◌, List, [], ◌++◌, length, Option, None, Some, IfSome, refl, sym, subst, arith, inr, ⊎_elim, length-append}
 use Rattle.std.specs.Io.KnownBytes.{Consumes}
 use Rattle.tws_file.specs.declared.file_fault.FileFault.{FileFault}
 use Rattle.tws_file.specs.declared.file_fault.FileFault.TheVariants as file
@@ -11,13 +11,12 @@ use Rattle.tws_reader.proofs.InParts.{read_none, read_some}
 use Rattle.tws_reader.proofs.Lasting.{lasting-append}
 use Rattle.tws_reader.proofs.ReadSoFar.{no_lasting}
 use Rattle.tftp_ends.specs.declared.limits.TheConstants.{MAX_FILE}
-use Rattle.tftp_packet.specs.declared.cause.Cause.TheVariants as cause
 use Rattle.command_line.specs.declared.limits.TheConstants.{INPUT_PIECE}
 use Rattle.command_line.specs.declared.tool_fault.ToolFault.{ToolFault}
 use Rattle.command_line.specs.declared.tool_fault.ToolFault.TheVariants.{Read, Write, Unreadable, Memory, Socket, Transfer}
 use Rattle.command_line.specs.Faults.{input_fault}
 use Rattle.command_line.specs.Reading.{RefusesPiece, TakesAll}
-use Rattle.archive_commands.specs.Put.{BeginsLong, IsLong, IsReadUp, IsSound, ReadsAtMost, RefusesBytes, WholeFails}
+use Rattle.archive_commands.specs.Put.{IsLong, IsReadUp, IsSound, ReadsAtMost, RefusesBytes, WholeFails}
 
 -- ---- a piece
 

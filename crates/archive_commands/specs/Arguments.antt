@@ -1,6 +1,7 @@
 -- The arguments that several commands of the archive share, as `clap` reads them, and what was given for an argument.
 use Rattle.std.specs.Prelude.{◌≡◌, ℕ, true, List, Option, Some, None, string_bytes, codes}
 use Rattle.clap.specs.Words.{Row, Rule, Text, first_of, new_rule}
+use Rattle.clap.specs.declared.builder.action.ArgAction.TheVariants.{SetTrue}
 use Rattle.clap.specs.declared.builder.value_parser.ValueParser.TheVariants as parser
 use Rattle.command_line.specs.Arguments.{IsNumberUpTo}
 use Rattle.archive_commands.specs.declared.limits.TheConstants.{PORT, MAX_PORT}
@@ -31,6 +32,10 @@ number_rule option = number_rule_to option.most option.name
 -- `[--port N]`
 abbrev pub port_option : NumberOption
 port_option = record { name = codes "port"; most = MAX_PORT; default = PORT }
+
+-- a flag
+abbrev pub flag_rule : Text → Rule
+flag_rule name = record (new_rule name) { long = Some name; action = Some SetTrue }
 
 -- ---- what was given
 

@@ -3,8 +3,14 @@ pub mod Hosts
 pub mod Arguments
 pub mod Faults
 pub mod Known
+pub mod Labels
 pub mod Lines
+pub mod Ports
 pub mod Put
+pub mod Reached
+pub mod PutBetter
+pub mod PutFiles
+pub mod PutRan
 pub mod Get
 pub mod Serve
 pub mod Syncing

@@ -1,7 +1,7 @@
 -- The command `put`: what it does over any wire, any file and any output.
-use Rattle.std.specs.Prelude.{◌≡◌, ◌≢◌, ◌⊎◌, ℕ, ◌<◌, ◌≤◌, List, ◌++◌, length, Option, Some, IfSome, Result, Ok, Err, OnOk, IfErr, string_bytes, codes}
+use Rattle.std.specs.Prelude.{◌≡◌, ◌⊎◌, ℕ, ◌<◌, ◌≤◌, List, ◌++◌, length, Option, IfSome, Result, Ok, Err, codes}
 use Rattle.std.specs.Io.KnownBytes.{Appends, Consumes, IsAtEnd}
-use Rattle.clap.specs.Words.{App, Row, Text, new_app, with_rule}
+use Rattle.clap.specs.Words.{App, Row, Rule, Text, new_app, with_rule}
 use Rattle.byte_output.specs.Output.{AppendsPrefix}
 use Rattle.tws_file.specs.declared.file_fault.FileFault.{FileFault}
 use Rattle.tws_file.specs.Text.{IsReadable, Record}
@@ -19,24 +19,29 @@ use Rattle.archive_commands.specs.declared.limits.TheConstants.{ROUNDS}
 use Rattle.command_line.specs.declared.limits.TheConstants.{INPUT_PIECE}
 use Rattle.command_line.specs.declared.tool_fault.ToolFault.{ToolFault}
 use Rattle.command_line.specs.declared.tool_fault.ToolFault.TheVariants.{Read, Write, Unreadable, Memory, Socket, Transfer}
-use Rattle.archive_commands.specs.Address.{Locates}
-use Rattle.archive_commands.specs.Arguments.{HasTarget, address_rule, file_rule, number_rule, port_option}
-use Rattle.command_line.specs.Faults.{answer_status}
-use Rattle.command_line.specs.Arguments.{HasSource}
-use Rattle.command_line.specs.Inputs.{IsUnreadable, ReadsSource, known_of}
-use Rattle.archive_commands.specs.Lines.{Transfers, sent_line}
+use Rattle.archive_commands.specs.Arguments.{HasTarget, address_rule, flag_rule, number_rule, port_option}
+use Rattle.command_line.specs.Arguments.{HasFlag, HasSources, files_rule}
+use Rattle.archive_commands.specs.Lines.{sent_line}
 
 abbrev pub put_name : Text
 put_name = codes "put"
 
--- `put ADDRESS FILE [--port N]`
+-- with only its files and where they are sent
+abbrev pub sending_app : App
+sending_app = with_rule (with_rule (with_rule (new_app put_name) address_rule) files_rule) (number_rule port_option)
+
+abbrev pub better_rule : Rule
+better_rule = flag_rule (codes "better")
+
+-- `put ADDRESS FILE.. [--port N] [--better]`
 abbrev pub put_app : App
-put_app = with_rule (with_rule (with_rule (new_app put_name) address_rule) file_rule) (number_rule port_option)
+put_app = with_rule sending_app better_rule
 
 -- what was found for its arguments
 pub record AsksToPut (rows : List Row) (arguments : PutArguments) : Type 0 where
-  pub source_is : HasSource rows arguments.source
+  pub sources_are : HasSources rows arguments.sources.items
   pub target_is : HasTarget rows arguments.target
+  pub better_is : HasFlag better_rule rows arguments.better
 
 -- ---- what it does
 
@@ -139,37 +144,3 @@ PutFails known server before after old new (Unreadable index fault) = (after ≡
 PutFails known server before after old new Memory = (new ≡ old) × ((after ≡ before) ⊎ PutRuns known server (Err run.Memory) before after ⊎ ((len : ℕ) × PutRuns known server (Ok len) before after))
 PutFails known server before after old new Socket = (new ≡ old) × PutRuns known server (Err run.Socket) before after
 PutFails known server before after old new (Transfer why) = (new ≡ old) × (PutRuns known server (Err (run.Transfer why)) before after ⊎ ((why ≡ cause.TooLong) × (after ≡ before) × IsLong known))
-
--- the whole input is a file's text, and the line with its length was written
-abbrev pub SaysSent : (known old new : Option (List ℕ)) → Type 0
-SaysSent known old new = IfSome known (λ (bytes : List ℕ). IsReadable bytes × Appends old new (sent_line (length bytes)))
-
--- an input that is reported as unreadable has that fault
-abbrev pub IsBlamed : (known : Option (List ℕ)) → ToolFault → Type 0
-IsBlamed known Read = Unit {0}
-IsBlamed known Write = Unit {0}
-IsBlamed known (Unreadable index fault) = IfSome known (λ (bytes : List ℕ). HasFileFault bytes fault)
-IsBlamed known Memory = Unit {0}
-IsBlamed known Socket = Unit {0}
-IsBlamed known (Transfer why) = Unit {0}
-
--- a put of a file with these bytes, to the server at this host and port, ended with this status
-pub record PutEnds (known : Option (List ℕ)) (server : Endpoint) (status : ℕ) (before after : Option (List Entry)) (old new : Option (List ℕ)) : Type 0 where
-  pub done : Result (Unit {0}) ToolFault
-  pub status_is : status ≡ answer_status done
-  pub puts : OnOk done (Puts known server before after old new)
-  pub fails : IfErr done (PutFails known server before after old new)
-
--- What it did, by the exit status, given what is known of the bytes of the file with each name, and of the hosts of
--- names, and what holds if standard input was not read: the log of the wire before and after, what standard input had and
--- has left, and the output before and after. The server is at the host to which the address that was given leads, and at
--- the port.
-pub record PutRan (bytes_of : List ℕ → Option (List ℕ)) (host_of : List ℕ → Option (Option ℕ)) (Unread : Type 0) (arguments : PutArguments) (status : ℕ) (before after : Option (List Entry)) (given left old new : Option (List ℕ)) : Type 0 where
-  pub found : Option ℕ
-  pub located : Locates host_of (string_bytes arguments.target.address) found
-  pub transfers : Transfers found sent_line status old new
-  pub sent : status ≡ 0 → SaysSent (known_of bytes_of given arguments.source) old new
-  pub unreadable : status ≡ 3 → IsUnreadable (known_of bytes_of given arguments.source)
-  pub ended : status ≢ 1 → (host : ℕ) × (found ≡ Some host) × PutEnds (known_of bytes_of given arguments.source) (record { host = host; port = arguments.target.port }) status before after old new
-  pub nowhere : status ≡ 1 → after ≡ before
-  pub input : ReadsSource arguments.source Unread status left

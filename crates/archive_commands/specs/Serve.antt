@@ -19,6 +19,7 @@ use Rattle.archive_server.specs.declared.putters.Putters.{Putters}
 use Rattle.archive_server.specs.declared.putters.Putters.TheVariants.{All, Hosts}
 use Rattle.archive_commands.specs.Address.{IsAddress, IsNoAddress}
 use Rattle.archive_commands.specs.Hosts.{IsNoList, ListsHosts}
+use Rattle.archive_commands.specs.Ports.{ArePorts}
 use Rattle.command_line.specs.Arguments.{HasFlag}
 use Rattle.archive_commands.specs.Arguments.{HasNumber, NumberOption, number_rule, port_option}
 use Rattle.archive_commands.specs.Lines.{LineFails, serving_line, taken_line}
@@ -70,9 +71,12 @@ places_app = with_rule (with_rule (with_rule numbers_app bound_rule) put_from_ru
 abbrev pub logging_app : App
 logging_app = with_rule (with_rule places_app log_rule) history_rule
 
--- `serve [--port N] [--turns N] [--per-host N] [--limit BYTES] [--address A.B.C.D] [--put-from A.B.C.D[,A.B.C.D..]] [--dir DIR] [--log] [--history DIR] [--any-solution]`
+abbrev pub ports_rule : Rule
+ports_rule = text_rule (codes "ports")
+
+-- `serve [--port N] [--turns N] [--per-host N] [--limit BYTES] [--address A.B.C.D] [--put-from A.B.C.D[,A.B.C.D..]] [--dir DIR] [--log] [--history DIR] [--any-solution] [--ports FROM-TO]`
 abbrev pub serve_app : App
-serve_app = with_rule logging_app any_rule
+serve_app = with_rule (with_rule logging_app any_rule) ports_rule
 
 -- what was found for its arguments
 pub record AsksToServe (rows : List Row) (arguments : ServeArguments) : Type 0 where
@@ -82,6 +86,7 @@ pub record AsksToServe (rows : List Row) (arguments : ServeArguments) : Type 0 w
   pub limit_is : HasNumber limit_option rows arguments.limit
   pub address_is : option_map string_bytes arguments.address ≡ first_of bound_rule.id rows
   pub put_from_is : option_map string_bytes arguments.put_from ≡ first_of put_from_rule.id rows
+  pub ports_are : ArePorts (first_of ports_rule.id rows) arguments.ports
   pub dir_is : option_map string_bytes arguments.dir ≡ first_of dir_rule.id rows
   pub any_is : HasFlag any_rule rows arguments.any_solution
   pub log_is : HasFlag log_rule rows arguments.log

@@ -1,14 +1,13 @@
 -- The command `sync`: what it does over any wire and any output.
 use Rattle.std.specs.Prelude.{◌≡◌, ◌⊎◌, ℕ, true, List, Option, Some, string_bytes, codes}
 use Rattle.clap.specs.Words.{App, Row, Rule, Text, first_of, new_app, new_rule, with_rule}
-use Rattle.clap.specs.declared.builder.action.ArgAction.TheVariants.{SetTrue}
 use Rattle.archive_wire.specs.Wire.{Entry}
 use Rattle.command_line.specs.Arguments.{HasFlag}
 use Rattle.archive_commands.specs.declared.sync.SyncArguments.{SyncArguments}
 use Rattle.archive_commands.specs.declared.target.Target.{Target}
 use Rattle.archive_commands.specs.declared.limits.TheConstants.{PORT, MAX_PORT}
 use Rattle.archive_commands.specs.Address.{Locates}
-use Rattle.archive_commands.specs.Arguments.{HasNumber, NumberOption, number_rule, port_option}
+use Rattle.archive_commands.specs.Arguments.{HasNumber, NumberOption, flag_rule, number_rule, port_option}
 use Rattle.archive_commands.specs.Syncing.{SyncEnds}
 
 abbrev pub sync_name : Text
@@ -28,10 +27,6 @@ to_rule = place_rule (codes "to")
 -- `[--to-port N]`
 abbrev pub to_port_option : NumberOption
 to_port_option = record { name = codes "to-port"; most = MAX_PORT; default = PORT }
-
--- a flag
-abbrev pub flag_rule : Text → Rule
-flag_rule name = record (new_rule name) { long = Some name; action = Some SetTrue }
 
 abbrev pub both_rule : Rule
 both_rule = flag_rule (codes "both")

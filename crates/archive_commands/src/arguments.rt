@@ -3,12 +3,12 @@
 ghost use Rattle.std.specs.Prelude.{◌≡◌, ℕ, false, Some, None, IfOk, IfSome, IfNone};
 ghost use Rattle.clap.specs.Matches.{found_of};
 ghost use Rattle.clap.specs.Words.{rows_of, rule_of, first_of, one_of};
-ghost use Rattle.command_line.specs.Arguments.{Answers, IsFlag};
-ghost use Rattle.archive_commands.specs.Arguments.{HasNumber, HasTarget, IsNumberOr, address_rule, file_rule, number_rule, number_rule_to, port_option};
+ghost use Rattle.command_line.specs.Arguments.{Answers, IsFlag, files_rule};
+ghost use Rattle.archive_commands.specs.Arguments.{HasNumber, HasTarget, IsNumberOr, address_rule, file_rule, flag_rule, number_rule, number_rule_to, port_option};
 
 use crate::limits::{MAX_PORT, PORT};
 use crate::target::Target;
-use clap::builder::ValueParser;
+use clap::builder::{ArgAction, ValueParser};
 use clap::{Arg, ArgMatches};
 use command_line::{number_up_to, string_given, text_given};
 use std::alloc::{AllocError, Global};
@@ -31,6 +31,18 @@ pub(crate) fn file_argument<'a>(alloc: Global, help: &'a str) -> Arg<'a>
 {
     Arg::new(alloc, "file")
         .value_name("FILE")
+        .required(true)
+        .help(help)
+}
+
+/// `FILE..`
+pub(crate) fn files_argument<'a>(alloc: Global, help: &'a str) -> Arg<'a>
+    ensures rule { rule_of result ≡ files_rule }
+    ensures local { result.global ≡ false }
+{
+    Arg::new(alloc, "files")
+        .value_name("FILE")
+        .num_args(1..)
         .required(true)
         .help(help)
 }
@@ -64,6 +76,17 @@ pub(crate) fn port_argument<'a>(alloc: Global) -> Arg<'a>
         MAX_PORT as u64,
         "The server's port, 6969 if none is given",
     )
+}
+
+/// A flag.
+pub(crate) fn flag_argument<'a>(alloc: Global, name: &'a str, help: &'a str) -> Arg<'a>
+    ensures rule { rule_of result ≡ flag_rule name.now }
+    ensures local { result.global ≡ false }
+{
+    Arg::new(alloc, name)
+        .long(name)
+        .action(ArgAction::SetTrue)
+        .help(help)
 }
 
 // ---- what was given

@@ -6,6 +6,9 @@ pub const PORT: u16 = 6969;
 /// The greatest port.
 pub(crate) const MAX_PORT: u16 = 65535;
 
+/// The fewest ports that a server may be given for transfers: twice as many as there are transfers at a time.
+pub const LEAST_PORTS: u16 = 128;
+
 /// The most turns that a server may be given: with quiet turns of 5 ms, two months. A server that is given this many runs
 /// until it is stopped.
 pub const TURNS: u64 = 1_000_000_000;

@@ -1,6 +1,6 @@
 //! The lines that the commands of the archive print.
 
-ghost use Rattle.std.specs.Prelude.{◌≡◌, ◌++◌, OnOk, IfErr, string_bytes};
+ghost use Rattle.std.specs.Prelude.{◌≡◌, ◌++◌, [], ◌∷◌, OnOk, IfErr, string_bytes};
 ghost use Rattle.archive_commands.specs.Lines.{number_line, LineFails};
 ghost use Rattle.std.specs.Io.KnownBytes.{Appends};
 
@@ -9,11 +9,23 @@ use command_line::ToolFault;
 use std::alloc::{AllocError, Global};
 use std::io::Write;
 
-// Adds a number between two texts, as a line.
-fn push_line(text: &mut String, before: &str, number: u64, after: &str) -> Result<(), AllocError>
+/// Adds a number between two texts, as a line.
+pub(crate) fn push_line(
+    text: &mut String,
+    before: &str,
+    number: u64,
+    after: &str,
+) -> Result<(), AllocError>
     ensures { OnOk result (string_bytes text.new ≡ string_bytes text.old ++ number_line before.now number after.now) }
 {
     writeln!(text, "{before}{number}{after}")
+}
+
+/// Adds a text as a line.
+pub(crate) fn push_words(text: &mut String, words: &str) -> Result<(), AllocError>
+    ensures { OnOk result (string_bytes text.new ≡ string_bytes text.old ++ (words.now ++ 10 ∷ [])) }
+{
+    writeln!(text, "{words}")
 }
 
 /// Writes a number between two texts, as a line.

@@ -1,6 +1,6 @@
 //! The command `put`.
 
-ghost use Rattle.std.specs.Prelude.{◌≡◌, ◌≢◌, ◌⊎◌, ◌≤◌, ◌+◌, length, false, Ok, Err, OnOk, IfOk, IfErr, IfSome, string_bytes};
+ghost use Rattle.std.specs.Prelude.{◌≡◌, ◌≢◌, ◌⊎◌, ◌+◌, length, false, Ok, Err, OnOk, IfOk, IfErr, IfSome, string_bytes};
 ghost use Rattle.std.specs.Io.KnownBytes.{IsAtEnd};
 ghost use Rattle.clap.specs.Matches.{found_of};
 ghost use Rattle.clap.specs.Words.{app_of, rows_of};
@@ -10,26 +10,30 @@ ghost use Rattle.tftp_ends.specs.declared.limits.TheConstants.{MAX_FILE};
 ghost use Rattle.archive_commands.specs.declared.limits.TheConstants.{ROUNDS};
 ghost use Rattle.command_line.specs.declared.limits.TheConstants.{INPUT_PIECE};
 ghost use Rattle.command_line.specs.Arguments.{Answers};
-ghost use Rattle.archive_commands.specs.Put.{AsksToPut, IsReadUp, IsWholeInput, PutFails, PutRan, PutRuns, Puts, ReadsAtMost, WholeFails, put_app};
+ghost use Rattle.archive_commands.specs.Put.{AsksToPut, IsReadUp, IsWholeInput, PutFails, PutRuns, Puts, ReadsAtMost, WholeFails, put_app, sending_app};
+ghost use Rattle.archive_commands.specs.Labels.{are_several};
+ghost use Rattle.archive_commands.specs.PutRan.{PutRan};
 ghost use Rattle.archive_commands.specs.Faults.{run_fault};
 ghost use Rattle.archive_commands.specs.Lines.{Unless};
 
 use crate::address::{Address, locate};
-use crate::arguments::{address_argument, file_argument, port_argument, target_given};
+use crate::arguments::{
+    address_argument, files_argument, flag_argument, flag_given, port_argument, target_given,
+};
 use crate::file_bytes::FileBytes;
 use crate::limits::ROUNDS;
 use crate::line::write_line;
-use crate::reporting::{finish_transfer, no_host, swapped};
+use crate::put_files::put_files;
+use crate::reporting::{no_host, swapped};
 use crate::resolver::Resolver;
 use crate::run_fault::of_run;
 use crate::target::Target;
 use crate::transfer_wire::TransferWire;
 use archive_runs::{RunFault, put_in_rounds};
 use clap::{ArgMatches, Command};
-use command_line::{Source, ToolFault, new_command, read_to_end, report_file, source_given};
+use command_line::{Source, ToolFault, new_command, read_to_end, sources_given};
 use std::alloc::{AllocError, Global};
 use std::io::{Read, Write};
-use std::slice;
 use system_files::FileSystem;
 use tftp_ends::MAX_FILE;
 use tftp_packet::Endpoint;
@@ -37,17 +41,30 @@ use tftp_packet::Endpoint;
 /// What `put` is asked for.
 #[derive(Drop)]
 pub struct PutArguments {
-    /// The solution file.
-    pub source: Source,
+    /// The solution files, in the order in which they are sent.
+    pub sources: Vec<Source>,
     /// Where it is sent.
     pub target: Target,
+    /// Whether only what is better than the archive's collection, or new, is sent.
+    pub better: bool,
 }
 
 // What the help of the command begins and ends with.
-const ABOUT: &str = "Send a solution file to an archive";
+const ABOUT: &str = "Send solution files to an archive";
 
 const HELP: &str =
-    "The archive takes the whole file, and keeps what is better than what it has.\n\nExample: tws put 192.0.2.1 mine.tws";
+    "The archive takes each file whole, and keeps what is better than what it has. All files are read before the first is sent.\n\nExample: tws put 192.0.2.1 mine.tws";
+
+// The command with only its files and where they are sent.
+fn sending_command<'a>(alloc: Global) -> Result<Command<'a>, AllocError>
+    ensures app { IfOk result (λ command. app_of command ≡ sending_app) }
+    ensures local { IfOk result (λ command. (out-Command command).has_globals ≡ false) }
+{
+    new_command(alloc, "put", ABOUT, HELP)
+        .arg(address_argument(alloc))?
+        .arg(files_argument(alloc, "The solution files; standard input for -"))?
+        .arg(port_argument(alloc))
+}
 
 /// The command line of `put`.
 ///
@@ -58,10 +75,11 @@ pub fn command<'a>(alloc: Global) -> Result<Command<'a>, AllocError>
     ensures app { IfOk result (λ command. app_of command ≡ put_app) }
     ensures local { IfOk result (λ command. (out-Command command).has_globals ≡ false) }
 {
-    new_command(alloc, "put", ABOUT, HELP)
-        .arg(address_argument(alloc))?
-        .arg(file_argument(alloc, "The solution file; standard input if it is -"))?
-        .arg(port_argument(alloc))
+    sending_command(alloc)?.arg(flag_argument(
+        alloc,
+        "better",
+        "Compare each file with the collection, and send only what is better or new",
+    ))
 }
 
 /// What the arguments ask for; `None` if they name no target.
@@ -71,13 +89,18 @@ pub fn asked(alloc: Global, words: &ArgMatches) -> Result<Option<PutArguments>, 
     let Some(target) = target_given(alloc, words)? else {
         return Ok(None);
     };
-    let source = source_given(alloc, words)?;
-    Ok(Some(PutArguments { source, target }))
+    let sources = sources_given(alloc, words)?;
+    let better = flag_given(words, "better");
+    Ok(Some(PutArguments {
+        sources,
+        target,
+        better,
+    }))
 }
 
-// Reads all bytes of an input, which must be the text of a solution file. One is left as soon as it is known to be none, or
-// longer than a file may be.
-fn read_whole<R: Read>(alloc: Global, input: &mut R) -> Result<Vec<u8>, ToolFault>
+/// Reads all bytes of an input, which must be the text of a solution file. One is left as soon as it is known to be none, or
+/// longer than a file may be.
+pub(crate) fn read_whole<R: Read>(alloc: Global, input: &mut R) -> Result<Vec<u8>, ToolFault>
     ensures whole { IfOk result (λ bytes. IsWholeInput (R.remaining input.old) bytes.items) }
     ensures end { OnOk result (IsAtEnd (R.remaining input.new)) }
     ensures unreadable { IfErr result (IsReadUp (R.remaining input.old) (R.remaining input.new)) }
@@ -96,15 +119,15 @@ fn read_whole<R: Read>(alloc: Global, input: &mut R) -> Result<Vec<u8>, ToolFaul
     }
 }
 
-// Puts a file in at most `ROUNDS` rounds, and shows how far it has come.
-fn put_shown<N: TransferWire>(
+/// Puts a file in at most `ROUNDS` rounds, and shows how far it has come.
+pub(crate) fn put_shown<N: TransferWire>(
     wire: &mut N,
     server: Endpoint,
     bytes: Vec<u8>,
 ) -> Result<u64, RunFault>
     ensures { PutsInRounds server bytes.items ROUNDS result (N.calls wire.old) (N.calls wire.new) }
 {
-    wire.set_length(bytes.len() as u64);
+    wire.begin(Some(bytes.len() as u64));
     let sent = put_in_rounds(wire, server, bytes, ROUNDS);
     wire.finish();
     sent
@@ -146,8 +169,8 @@ fn not_located<E: Write>(arguments: &PutArguments, errors: &mut E) -> u8
     ensures { result ≡ 1 }
 {
     let address = arguments.target.address.as_str();
-    match &arguments.source {
-        Source::Named(name)
+    match arguments.sources.first() {
+        Some(Source::Named(name))
             if Address::read(name.as_str()).is_some() || address.ends_with(".tws") => {
             swapped(address, errors)
         }
@@ -155,7 +178,8 @@ fn not_located<E: Write>(arguments: &PutArguments, errors: &mut E) -> u8
     }
 }
 
-/// Runs `put` over this wire, and returns the status.
+/// Runs `put` over this wire, and returns the status: that of the first fault. Nothing is sent before all files have been
+/// read, and nothing at all if one cannot be.
 pub fn run<S: FileSystem + Resolver, N: TransferWire, R: Read, W: Write, E: Write>(
     system: &S,
     wire: &mut N,
@@ -166,8 +190,10 @@ pub fn run<S: FileSystem + Resolver, N: TransferWire, R: Read, W: Write, E: Writ
     errors: &mut E,
 ) -> u8
     ensures ran { PutRan (S.bytes_of system.now) (S.host_of system.now) (input.new ≡ input.old) arguments.now result (N.calls wire.old) (N.calls wire.new) (R.remaining input.old) (R.remaining input.new) (W.contents out.old) (W.contents out.new) }
-    ensures usage { result ≡ 1 → input.new ≡ input.old }
-    ensures unwritten { result ≢ 0 → result ≢ 2 → out.new ≡ out.old }
+    ensures usage { result ≡ 1 → (input.new ≡ input.old) × (out.new ≡ out.old) }
+    ensures unreadable { result ≡ 3 → out.new ≡ out.old }
+    // The same of one file at any other fault than in writing.
+    ensures unwritten { are_several arguments.now.sources.items ≡ false → result ≢ 0 → result ≢ 2 → out.new ≡ out.old }
     ensures silent { result ≡ 0 → errors.new ≡ errors.old }
 {
     let target = &arguments.target;
@@ -176,17 +202,5 @@ pub fn run<S: FileSystem + Resolver, N: TransferWire, R: Read, W: Write, E: Writ
     };
     let port = target.port;
     let server = Endpoint { host, port };
-    match &arguments.source {
-        Source::Standard => {
-            let done = put_file(alloc, input, wire, server, out);
-            finish_transfer(done, wire, &[], errors)
-        }
-        Source::Named(name) => match system.open(name.as_str()) {
-            Ok(mut file) => {
-                let done = put_file(alloc, &mut file, wire, server, out);
-                finish_transfer(done, wire, slice::from_ref(name), errors)
-            }
-            Err(cause) => report_file(ToolFault::Read, name.as_str(), &cause, errors),
-        },
-    }
+    put_files(system, wire, alloc, arguments, server, input, out, errors)
 }

@@ -1,15 +1,18 @@
 //! Reports of why a command of the archive failed, and its exit status.
 
-ghost use Rattle.std.specs.Prelude.{◌≡◌, ◌≤◌};
-ghost use Rattle.command_line.specs.Faults.{status_of, answer_status};
+ghost use Rattle.std.specs.Prelude.{◌≡◌};
+ghost use Rattle.command_line.specs.Faults.{status_of};
 ghost use Rattle.archive_commands.specs.Address.{address_hint};
 
+use crate::reached::Reached;
 use crate::transfer_wire::TransferWire;
 use archive_client::Cause;
 use byte_output::Printable;
-use command_line::{DONE, ToolFault, USAGE, report, report_cause};
+use command_line::{ToolFault, USAGE, report, report_cause};
 use std::io::Write;
+use std::net::Ipv4Addr;
 use std::slice;
+use tftp_packet::Endpoint;
 use tws_file::{FileFault, Ruleset};
 
 // What helps with an address that cannot be used: a port after a colon is the first that many try.
@@ -65,10 +68,50 @@ fn report_refusal<E: Write>(refusal: &[u8], errors: &mut E) {
     }
 }
 
-/// Prints what the server said of a fault of a transfer over this wire, or the system.
+// Prints that no answer came from this server, and what to check.
+fn report_no_answer<E: Write>(server: Endpoint, errors: &mut E) {
+    let host = Ipv4Addr::from(server.host);
+    let port = server.port;
+    let _ = writeln!(
+        errors,
+        "tws: no answer from {host} port {port}: does the archive run there, and may its answers come in?"
+    );
+}
+
+// Prints where a transfer that timed out has stopped, if that is known, and what to check.
+fn report_reached<E: Write>(reached: Option<Reached>, errors: &mut E) {
+    let Some(
+        Reached {
+            server,
+            answered,
+            block,
+            blocks,
+        },
+    ) = reached
+    else {
+        return;
+    };
+    if !answered {
+        report_no_answer(server, errors);
+        return;
+    }
+    let _ = match blocks {
+        Some(blocks) => writeln!(
+            errors,
+            "tws: answers stopped after block {block} of {blocks}: try again"
+        ),
+        None => writeln!(
+            errors,
+            "tws: answers stopped after block {block}: try again"
+        ),
+    };
+}
+
+/// Prints what the server said of a fault of a transfer over this wire, or the system, or where the transfer stopped.
 pub(crate) fn report_more<N: TransferWire, E: Write>(fault: ToolFault, wire: &N, errors: &mut E) {
     match fault {
         ToolFault::Transfer(Cause::Refused(_)) => report_refusal(wire.refusal(), errors),
+        ToolFault::Transfer(Cause::TimedOut) => report_reached(wire.reached(), errors),
         ToolFault::Socket => {
             if let Some(cause) = wire.last_error() {
                 report_cause(fault.status(), "no port", &cause, errors);
@@ -125,21 +168,4 @@ pub(crate) fn report_received<N: TransferWire, E: Write>(
         }
     }
     report_transfer(fault, wire, slice::from_ref(address), errors)
-}
-
-/// Like `report_transfer`, but reports nothing if the transfer succeeded.
-pub(crate) fn finish_transfer<N: TransferWire, E: Write>(
-    done: Result<(), ToolFault>,
-    wire: &N,
-    names: &[String],
-    errors: &mut E,
-) -> u8
-    ensures status { result ≡ answer_status done }
-    ensures few { result ≤ 4 }
-    ensures silent { result ≡ 0 → errors.new ≡ errors.old }
-{
-    match done {
-        Ok(()) => DONE,
-        Err(fault) => report_transfer(fault, wire, names, errors),
-    }
 }

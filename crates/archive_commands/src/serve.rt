@@ -1,20 +1,23 @@
 //! The command `serve`: its arguments.
 
-ghost use Rattle.std.specs.Prelude.{◌≡◌, false, IfOk, IfSome, IfNone, Some, None, option_map, string_bytes};
+ghost use Rattle.std.specs.Prelude.{◌≡◌, false, Option, IfOk, IfSome, IfNone, Some, None, option_map, string_bytes};
 ghost use Rattle.clap.specs.Matches.{found_of};
-ghost use Rattle.clap.specs.Words.{app_of, rows_of, rule_of};
+ghost use Rattle.clap.specs.Words.{app_of, first_of, rows_of, rule_of};
 ghost use Rattle.clap.specs.declared.builder.command.Command.TheViews.{out-Command};
 ghost use Rattle.command_line.specs.Arguments.{Answers};
 ghost use Rattle.archive_commands.specs.Arguments.{number_rule};
-ghost use Rattle.archive_commands.specs.Serve.{AsksToServe, HasHost, IsNoHost, any_rule, given_address, limit_option, log_rule, logging_app, numbers_app, per_host_option, places_app, serve_app, text_rule, turns_option};
+ghost use Rattle.archive_commands.specs.Ports.{ArePorts};
+ghost use Rattle.archive_commands.specs.declared.ports.Ports.{Ports as PortsModel};
+ghost use Rattle.archive_commands.specs.Serve.{AsksToServe, HasHost, IsNoHost, any_rule, given_address, limit_option, log_rule, logging_app, numbers_app, per_host_option, places_app, ports_rule, serve_app, text_rule, turns_option};
 
 use crate::address::Address;
 use crate::arguments::{flag_given, number_argument, number_given, port_argument, port_given};
 use crate::limits::{PER_HOST, TURNS};
+use crate::ports::Ports;
 use archive_table::LIVE;
 use clap::builder::ArgAction;
 use clap::{Arg, ArgMatches, Command};
-use command_line::{new_command, string_given};
+use command_line::{new_command, string_given, text_given};
 use std::alloc::{AllocError, Global};
 use tftp_ends::MAX_FILE;
 
@@ -33,6 +36,8 @@ pub struct ServeArguments {
     pub address: Option<String>,
     /// The addresses of the hosts that may put, with commas between them; every host if `None`.
     pub put_from: Option<String>,
+    /// The ports for transfers; those for private use (RFC 6335 section 6) if `None`.
+    pub ports: Option<Ports>,
     /// The folder that keeps the collections, if any.
     pub dir: Option<String>,
     /// Whether solutions are kept that stop Tile World.
@@ -198,7 +203,28 @@ pub fn command<'a>(alloc: Global) -> Result<Command<'a>, AllocError>
     ensures app { IfOk result (λ command. app_of command ≡ serve_app) }
     ensures local { IfOk result (λ command. (out-Command command).has_globals ≡ false) }
 {
-    logging_command(alloc)?.arg(any_argument(alloc))
+    logging_command(alloc)?
+        .arg(any_argument(alloc))?
+        .arg(text_argument(
+            alloc,
+            "ports",
+            "FROM-TO",
+            "The ports for transfers, at least 128; 49152-65535 if none are given",
+        ))
+}
+
+// The ports that were given, if any were; `None` if what was given is no range of them.
+fn ports_given(words: &ArgMatches) -> Option<Option<Ports>>
+    ensures some { IfSome result (ArePorts (first_of ports_rule.id (rows_of (found_of words.now)))) }
+    ensures none { IfNone result ((ports : Option PortsModel) → ArePorts (first_of ports_rule.id (rows_of (found_of words.now))) ports → ⊥) }
+{
+    let Some(text) = text_given(words, "ports") else {
+        return Some(None);
+    };
+    match Ports::read(text) {
+        Some(ports) => Some(Some(ports)),
+        None => None,
+    }
 }
 
 /// What the arguments ask for; `None` if a number is out of range.
@@ -217,6 +243,9 @@ pub fn asked(alloc: Global, words: &ArgMatches) -> Result<Option<ServeArguments>
     let Some(limit) = number_given(words, "limit", MAX_FILE, MAX_FILE) else {
         return Ok(None);
     };
+    let Some(ports) = ports_given(words) else {
+        return Ok(None);
+    };
     let address = string_given(alloc, words, "address")?;
     let put_from = string_given(alloc, words, "put-from")?;
     let dir = string_given(alloc, words, "dir")?;
@@ -230,6 +259,7 @@ pub fn asked(alloc: Global, words: &ArgMatches) -> Result<Option<ServeArguments>
         limit,
         address,
         put_from,
+        ports,
         dir,
         any_solution,
         log,

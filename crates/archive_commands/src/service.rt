@@ -83,6 +83,19 @@ impl<'a, K: ServedKeeper, O: ServerObserver> Service<'a, K, O> {
         }
     }
 
+    // Makes one turn or round. Returns whether a file was taken.
+    fn make_one<N: ReadyWire>(&mut self, wire: &mut N) -> bool
+        ensures turn { MakesOne (turn_of self.old.limit) self.old.server self.new.server result (N.calls wire.old) (N.calls wire.new) (K.calls self.old.keeper) (K.calls self.new.keeper) }
+        ensures limit { self.new.limit ≡ self.old.limit }
+    {
+        let keeper = &mut self.keeper;
+        let observer = &mut self.observer;
+        match self.limit {
+            TurnLimit::Turns(_) => self.server.turn(wire, keeper, observer),
+            TurnLimit::Rounds(_) => self.server.round(wire, keeper, observer),
+        }
+    }
+
     // Makes one turn or round. Returns how many files were taken, of which there were `taken` before.
     fn make_turn<N: ReadyWire>(&mut self, wire: &mut N, taken: u64) -> u64
         requires { taken < u64.MAX }
@@ -90,13 +103,11 @@ impl<'a, K: ServedKeeper, O: ServerObserver> Service<'a, K, O> {
         ensures few { result ≤ taken + 1 }
         ensures limit { self.new.limit ≡ self.old.limit }
     {
-        let keeper = &mut self.keeper;
-        let observer = &mut self.observer;
-        let took = match self.limit {
-            TurnLimit::Turns(_) => self.server.turn(wire, keeper, observer),
-            TurnLimit::Rounds(_) => self.server.round(wire, keeper, observer),
-        };
-        if took { taken + 1 } else { taken }
+        if self.make_one(wire) {
+            taken + 1
+        } else {
+            taken
+        }
     }
 
     // Makes turns or rounds up to the limit, as long as the keeper is usable. Returns how many files were taken.

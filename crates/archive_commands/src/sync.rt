@@ -6,17 +6,18 @@ ghost use Rattle.clap.specs.Words.{app_of, rows_of, rule_of};
 ghost use Rattle.clap.specs.declared.builder.command.Command.TheViews.{out-Command};
 ghost use Rattle.command_line.specs.Arguments.{Answers};
 ghost use Rattle.archive_commands.specs.Arguments.{HasNumber, number_rule, port_option};
-ghost use Rattle.archive_commands.specs.Sync.{AsksToSync, HasPlace, SyncRan, flag_rule, from_rule, place_rule, sync_app, sync_places_app, to_port_option, to_rule};
+ghost use Rattle.archive_commands.specs.Sync.{AsksToSync, HasPlace, SyncRan, from_rule, place_rule, sync_app, sync_places_app, to_port_option, to_rule};
 
 use crate::address::locate;
-use crate::arguments::{flag_given, number_argument, number_given, port_argument, port_given};
+use crate::arguments::{
+    flag_argument, flag_given, number_argument, number_given, port_argument, port_given,
+};
 use crate::limits::{MAX_PORT, PORT};
 use crate::reporting::no_host;
 use crate::resolver::Resolver;
 use crate::syncing::{Ends, sync_archives};
 use crate::target::Target;
 use crate::transfer_wire::TransferWire;
-use clap::builder::ArgAction;
 use clap::{Arg, ArgMatches, Command};
 use command_line::{new_command, string_given};
 use std::alloc::{AllocError, Global};
@@ -64,16 +65,6 @@ fn to_port_argument<'a>(alloc: Global) -> Arg<'a>
         MAX_PORT as u64,
         "The port of TO, 6969 if none is given",
     )
-}
-
-fn flag_argument<'a>(alloc: Global, name: &'a str, help: &'a str) -> Arg<'a>
-    ensures rule { rule_of result ≡ flag_rule name.now }
-    ensures local { result.global ≡ false }
-{
-    Arg::new(alloc, name)
-        .long(name)
-        .action(ArgAction::SetTrue)
-        .help(help)
 }
 
 // The command with only what says where the archives are.

@@ -1,12 +1,12 @@
 //! What of one archive is better is put at the other one, and a line says so.
 
-ghost use Rattle.std.specs.Prelude.{◌≡◌, ◌≢◌, ◌≤◌, ◌++◌, [], ◌∷◌, OnOk, IfErr, option_map, string_bytes};
+ghost use Rattle.std.specs.Prelude.{◌≡◌, ◌≢◌, ◌≤◌, ◌++◌, [], ◌∷◌, OnOk, IfErr, option_map};
 ghost use Rattle.std.specs.Io.KnownBytes.{Appends};
 ghost use Rattle.archive_commands.specs.Lines.{LineFails};
 ghost use Rattle.archive_commands.specs.Syncing.{PutsOne, PutsSaid, nothing_words, part_line, sent_words};
 
 use crate::limits::ROUNDS;
-use crate::line::write_line;
+use crate::line::{push_words, write_line};
 use crate::run_fault::of_run;
 use crate::sync::SyncArguments;
 use crate::sync_reporting::report_at;
@@ -14,7 +14,7 @@ use crate::transfer_wire::TransferWire;
 use archive_sync::put_part;
 use byte_output::put;
 use command_line::{DONE, ToolFault};
-use std::alloc::{AllocError, Global};
+use std::alloc::Global;
 use std::io::Write;
 use tftp_packet::Endpoint;
 use tws_file::Ruleset;
@@ -50,13 +50,6 @@ impl Way {
             (Ruleset::Ms, true) => "ms back nothing better",
         }
     }
-}
-
-// Adds a text as a line.
-fn push_words(text: &mut String, words: &str) -> Result<(), AllocError>
-    ensures { OnOk result (string_bytes text.new ≡ string_bytes text.old ++ (words.now ++ 10 ∷ [])) }
-{
-    writeln!(text, "{words}")
 }
 
 // Writes a text as a line.

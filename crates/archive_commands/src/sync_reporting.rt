@@ -44,23 +44,25 @@ pub(crate) fn report_at<N: TransferWire, E: Write>(
     fault.status()
 }
 
-// Reports why two collections cannot be compared, and returns the status.
-fn report_texts<E: Write>(fault: NewsFault, arguments: &SyncArguments, errors: &mut E) -> u8
+/// Reports why two texts cannot be compared, and returns the status. The first one has the name in `first`, as in those of
+/// `report`, and the second one is from the archive at this address.
+pub(crate) fn report_texts<E: Write>(
+    fault: NewsFault,
+    first: &[String],
+    address: &String,
+    errors: &mut E,
+) -> u8
     ensures { result ≡ news_status fault }
 {
     match fault {
-        NewsFault::First(fault) => report(
-            ToolFault::of_input(0, fault),
-            slice::from_ref(&arguments.from.address),
-            errors,
-        ),
+        NewsFault::First(fault) => report(ToolFault::of_input(0, fault), first, errors),
         NewsFault::Second(fault) => report(
             ToolFault::of_input(0, fault),
-            slice::from_ref(&arguments.to.address),
+            slice::from_ref(address),
             errors,
         ),
         NewsFault::Rulesets => {
-            let _ = writeln!(errors, "tws: {}: different rulesets", arguments.to.address);
+            let _ = writeln!(errors, "tws: {address}: different rulesets");
             UNREADABLE
         }
         NewsFault::Memory => report(ToolFault::Memory, &[], errors),
@@ -83,7 +85,12 @@ pub(crate) fn report_news<N: TransferWire, E: Write>(
         Ok(_) => DONE,
         Err(SyncFault::From(fault)) => report_at(of_run(*fault), arguments, true, wire, errors),
         Err(SyncFault::To(fault)) => report_at(of_run(*fault), arguments, false, wire, errors),
-        Err(SyncFault::News(fault)) => report_texts(*fault, arguments, errors),
+        Err(SyncFault::News(fault)) => report_texts(
+            *fault,
+            slice::from_ref(&arguments.from.address),
+            &arguments.to.address,
+            errors,
+        ),
     }
 }
 

@@ -23,8 +23,8 @@ pub(crate) struct Ends {
     pub(crate) to: Endpoint,
 }
 
-// The status of the first of two faults.
-fn first_of(status: u8, next: u8) -> u8
+/// The status of the first of two faults.
+pub(crate) fn first_of(status: u8, next: u8) -> u8
     ensures { result ≡ first_of status next }
 {
     if status == DONE { next } else { status }

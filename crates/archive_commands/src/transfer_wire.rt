@@ -2,13 +2,15 @@
 
 ghost use Rattle.std.specs.Prelude.{◌≡◌};
 
+use crate::reached::Reached;
 use archive_memory::MemoryWire;
 use archive_progress::ProgressWire;
 use archive_wire::ReadyWire;
 use std::io;
 use std::io::Write;
 
-/// A wire that can say why a server refused a transfer or a port was not opened, and may show how far a transfer has come.
+/// A wire that can say why a server refused a transfer or a port was not opened, and how far a transfer has come, which it may
+/// also show.
 pub trait TransferWire: ReadyWire {
     /// The text of the ERROR that was received last, as far as it was kept; empty if there was none.
     fn refusal(&self) -> &[u8];
@@ -16,8 +18,11 @@ pub trait TransferWire: ReadyWire {
     /// What the system said of the port that was not opened, where that is known.
     fn last_error(&self) -> Option<io::Error>;
 
-    /// Sets the length in bytes of the file that is to be sent.
-    fn set_length(&mut self, length: u64)
+    /// How far the last transfer came, where that is known.
+    fn reached(&self) -> Option<Reached>;
+
+    /// The next transfer begins, of a file of this length in bytes if that is known.
+    fn begin(&mut self, length: Option<u64>)
         ensures { Self.calls self.new ≡ Self.calls self.old };
 
     /// The transfer has ended: nothing more is shown of it.
@@ -25,7 +30,7 @@ pub trait TransferWire: ReadyWire {
         ensures { Self.calls self.new ≡ Self.calls self.old };
 }
 
-/// A wire in memory keeps no such text, has no port of the system, and shows nothing.
+/// A wire in memory keeps no such text, has no port of the system, and neither counts nor shows anything.
 impl TransferWire for MemoryWire {
     fn refusal(&self) -> &[u8] {
         &[]
@@ -35,7 +40,11 @@ impl TransferWire for MemoryWire {
         None
     }
 
-    fn set_length(&mut self, _length: u64) {}
+    fn reached(&self) -> Option<Reached> {
+        None
+    }
+
+    fn begin(&mut self, _length: Option<u64>) {}
 
     fn finish(&mut self) {}
 }
@@ -49,8 +58,12 @@ impl<N: TransferWire, W: Write> TransferWire for ProgressWire<N, W> {
         self.wire().last_error()
     }
 
-    fn set_length(&mut self, length: u64) {
-        ProgressWire::set_length(self, length);
+    fn reached(&self) -> Option<Reached> {
+        self.wire().reached()
+    }
+
+    fn begin(&mut self, length: Option<u64>) {
+        ProgressWire::begin(self, length);
     }
 
     fn finish(&mut self) {

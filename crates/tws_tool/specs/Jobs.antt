@@ -17,7 +17,8 @@ use Rattle.file_commands.specs.Best.{best_app}
 use Rattle.file_commands.specs.Compare.{compare_app}
 use Rattle.file_commands.specs.Page.{page_app}
 use Rattle.archive_commands.specs.Serve.{AsksToServe, ServeRan, serve_app, serve_name}
-use Rattle.archive_commands.specs.Put.{AsksToPut, PutRan, put_app, put_name}
+use Rattle.archive_commands.specs.Put.{AsksToPut, put_app, put_name}
+use Rattle.archive_commands.specs.PutRan.{PutRan}
 use Rattle.archive_commands.specs.Get.{AsksToGet, GetRan, get_app, get_name}
 use Rattle.archive_commands.specs.Sync.{AsksToSync, SyncRan, sync_app, sync_name}
 use Rattle.archive_commands.specs.Known.{Known}

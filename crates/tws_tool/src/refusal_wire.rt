@@ -2,7 +2,7 @@
 
 ghost use Rattle.std.specs.Prelude.{◌≡◌};
 
-use archive_commands::TransferWire;
+use archive_commands::{Reached, TransferWire};
 use archive_host::UdpWire;
 use archive_wire::{RECEIVE_SIZE, Ready, ReadyWire, Wire, WireFault};
 use arrayvec::ArrayVec;
@@ -15,13 +15,18 @@ use tftp_packet::{Endpoint, Out, Packet, decode};
 // How many bytes of a refusal are kept.
 const REFUSAL: usize = 128;
 
-/// A wire over ports of the system that notes the text of the last ERROR that is received, and closes a port once the next
-/// one is open: else what still arrives there would keep a later transfer from its wait. In all else it is the wire below.
+/// A wire over ports of the system that notes the text of the last ERROR that is received and how far the last transfer came,
+/// and closes a port once the next one is open: else what still arrives there would keep a later transfer from its wait. In
+/// all else it is the wire below.
 #[derive(Drop)]
 pub(crate) struct RefusalWire<P: Net + Clock + RandomSource + AllocGlobal + Copy> {
     wire: UdpWire<P>,
     refusal: ArrayVec<u8, REFUSAL>,
     port: Option<u16>,
+    // The length of the file that is to be sent, if it is known.
+    length: Option<u64>,
+    // What is known of the transfer at this port, once it has asked.
+    reached: Option<Reached>,
 }
 
 impl<P: Net + Clock + RandomSource + AllocGlobal + Copy> RefusalWire<P> {
@@ -32,6 +37,8 @@ impl<P: Net + Clock + RandomSource + AllocGlobal + Copy> RefusalWire<P> {
             wire,
             refusal: ArrayVec::new(),
             port: None,
+            length: None,
+            reached: None,
         }
     }
 }
@@ -60,6 +67,7 @@ impl<P: Net + Clock + RandomSource + AllocGlobal + Copy> Wire for RefusalWire<P>
             let _ = self.wire.close(last);
         }
         self.port = Some(port);
+        self.reached = None;
         Ok(port)
     }
 
@@ -77,12 +85,19 @@ impl<P: Net + Clock + RandomSource + AllocGlobal + Copy> Wire for RefusalWire<P>
     ) -> Result<Option<(usize, Endpoint)>, WireFault> {
         let got = self.wire.receive(port, buffer);
         if let Ok(Some((count, _))) = &got {
-            note(&mut self.refusal, &buffer[..*count]);
+            let bytes = &buffer[..*count];
+            note(&mut self.refusal, bytes);
+            if let Some(reached) = &mut self.reached {
+                reached.note(bytes);
+            }
         }
         got
     }
 
     fn send(&mut self, out: &Out) -> Result<(), WireFault> {
+        if self.reached.is_none() {
+            self.reached = Some(Reached::asking(out.to, self.length));
+        }
         self.wire.send(out)
     }
 
@@ -106,7 +121,13 @@ impl<P: Net + Clock + RandomSource + AllocGlobal + Copy> TransferWire for Refusa
         self.wire.last_error()
     }
 
-    fn set_length(&mut self, _length: u64) {}
+    fn reached(&self) -> Option<Reached> {
+        self.reached
+    }
+
+    fn begin(&mut self, length: Option<u64>) {
+        self.length = length;
+    }
 
     fn finish(&mut self) {}
 }

@@ -17,6 +17,7 @@ use archive_server::{Policies, Server, ServerObserver};
 use archive_table::{Keeper, NoObserver};
 use arrayvec::ArrayString;
 use command_line::{FAILED, ToolFault, report, report_cause};
+use folders::{Folder, clear_draft};
 use log::sink::Console;
 use std::alloc::Global;
 use std::fmt::Write as _;
@@ -28,6 +29,11 @@ use std::random::RandomSource;
 use std::rt::Files;
 use std::time::Clock;
 use tftp_packet::Endpoint;
+
+// The names under which the folder of a history is tried: nothing is left there.
+const TRIED: &str = "history.new";
+
+const HISTORY: &str = "history";
 
 // The longest name of a port, `port 65535`.
 const PORT_NAME: usize = 10;
@@ -51,12 +57,20 @@ fn no_history<E: Write>(cause: &io::Error, name: &str, errors: &mut E) -> u8
     report_cause(FAILED, name, cause, errors)
 }
 
+// Reports that the history cannot be written, with the system's cause if it is known.
+fn no_record<E: Write>(cause: Option<io::Error>, name: &str, errors: &mut E) {
+    let _ = match cause {
+        Some(cause) => writeln!(errors, "tws: {name}: folder not writable: {cause}"),
+        None => writeln!(errors, "tws: {name}: folder not writable"),
+    };
+}
+
 // Standard error, if there is to be a log.
 fn console<P: Eprint + Copy>(rt: P, is_logged: bool) -> Option<Console<P>> {
     if is_logged { Some(Console(rt)) } else { None }
 }
 
-// The history that was asked for, if one was. `None` if its folder cannot be opened, which is reported.
+// The history that was asked for, if one was. `None` if its folder cannot be opened or written, which is reported.
 fn history_of<P: Files<File = File> + AllocGlobal + Copy, E: Write>(
     rt: P,
     arguments: &ServeArguments,
@@ -67,13 +81,18 @@ fn history_of<P: Files<File = File> + AllocGlobal + Copy, E: Write>(
     let Some(dir) = &arguments.history else {
         return Some(None);
     };
-    match HostFolder::open_unlocked(rt, dir.as_str()) {
-        Ok(history) => Some(Some(history)),
+    let mut history = match HostFolder::open_unlocked(rt, dir.as_str()) {
+        Ok(history) => history,
         Err(cause) => {
             no_history(&cause, dir.as_str(), errors);
-            None
+            return None;
         }
+    };
+    if clear_draft(&mut history, TRIED, HISTORY).is_err() || history.sync_folder().is_err() {
+        no_record(history.last_error(), dir.as_str(), errors);
+        return None;
     }
+    Some(Some(history))
 }
 
 // Where and how a server serves: this host's address, the policies, and what was asked for.
@@ -90,6 +109,16 @@ impl<'a, P: Files<File = File> + Net + Clock + RandomSource + Eprint + AllocGlob
     'a,
     P,
 > {
+    // A wire that has the request port, and opens the ports for transfers that were asked for.
+    fn listen(&self) -> io::Result<UdpWire<P>> {
+        let (host, port) = (self.host, self.arguments.port);
+        let mut wire = UdpWire::listen_at(self.rt, Endpoint { host, port })?;
+        if let Some(ports) = self.arguments.ports {
+            wire.use_ports(ports.first, ports.last);
+        }
+        Ok(wire)
+    }
+
     // Serves with this server, keeper and observer, and returns the status.
     fn serve_observed<K: ServedKeeper + Drop, O: ServerObserver + Drop, W: Write, E: Write>(
         &self,
@@ -106,18 +135,17 @@ impl<'a, P: Files<File = File> + Net + Clock + RandomSource + Eprint + AllocGlob
         ensures served { (last : K) × (entries : List Keeping) × Served self.now.arguments.now.port self.now.arguments.now.turns self.now.policies server.table result (K.usable last) None None (own_calls (K.calls keeper.keeper.keeper) keeper.keeper.entries) (own_calls (K.calls last) entries) (W.contents out.old) (W.contents out.new) }
         ensures silent { result ≡ 0 → errors.new ≡ errors.old }
     {
-        let (host, port) = (self.host, self.arguments.port);
-        match UdpWire::listen_at(self.rt, Endpoint { host, port }) {
+        match self.listen() {
             Ok(mut wire) => Service::new(
                 self.arguments,
-                host,
+                self.host,
                 self.policies,
                 server,
                 keeper,
                 observer,
             )
             .run(self.alloc, &mut wire, out, errors),
-            Err(cause) => no_port(port, &cause, errors),
+            Err(cause) => no_port(self.arguments.port, &cause, errors),
         }
     }
 

@@ -1,14 +1,13 @@
 //! A caller of `archive_history`.
 
-use archive_history::{HistoryFault, Stamp, record, stem_of};
-use folders::Folder;
+use archive_history::{HistoryFault, HistoryFolder, Stamp, record};
 use std::alloc::Global;
 use tftp_ends::Received;
 use tftp_packet::Endpoint;
 use tws_file::Ruleset;
 
 /// Puts a file that was taken from a peer at this time into the history.
-pub fn add<F: Folder>(
+pub fn add<F: HistoryFolder>(
     alloc: Global,
     folder: &mut F,
     time: &Stamp,
@@ -16,6 +15,5 @@ pub fn add<F: Folder>(
     ruleset: Ruleset,
     file: &Received,
 ) -> Result<(), HistoryFault> {
-    let stem = stem_of(alloc, time, peer, ruleset)?;
-    record(alloc, folder, stem.as_str(), file)
+    record(alloc, folder, time, peer, ruleset, file)
 }

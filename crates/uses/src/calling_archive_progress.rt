@@ -16,7 +16,7 @@ pub fn put_shown<N: ReadyWire + Drop, T: Write + Drop>(
     file: Vec<u8>,
 ) -> Result<u64, RunFault> {
     let mut wire = ProgressWire::new(alloc, wire, Some(terminal));
-    wire.set_length(file.len() as u64);
+    wire.begin(Some(file.len() as u64));
     let sent = put_in_rounds(&mut wire, server, file, 1000);
     wire.finish();
     sent

@@ -2,13 +2,13 @@ use Rattle.tws_tool.proofs.Asking.{asks_for_counted, asks_for_csv, asks_for_move
 use Rattle.tws_tool.proofs.laws.words_of_commands.Goals as goal
 
 pub returns-clause-show : goal.returns-clause-show
-returns-clause-show c = asks_for_show
+returns-clause-show c arguments is = asks_for_show arguments is
 
 pub returns-clause-moves : goal.returns-clause-moves
-returns-clause-moves c = asks_for_moves
+returns-clause-moves c arguments is = asks_for_moves arguments is
 
 pub returns-clause-csv : goal.returns-clause-csv
-returns-clause-csv c = asks_for_csv
+returns-clause-csv c arguments is = asks_for_csv arguments is
 
 pub returns-clause-pack : goal.returns-clause-pack
 returns-clause-pack c = asks_for_pack

@@ -1,4 +1,4 @@
-use Rattle.std.proofs.Common.{refl, ◌≡◌, ◌∙◌, ◌++◌, List, ℕ, ap, length, length-append, arith}
+use Rattle.std.proofs.Common.{refl, ◌≡◌, ◌∙◌, ◌++◌, List, ℕ, ap, length, arith}
 use Rattle.archive_commands.proofs.Taking.{refused_push, sound_bytes}
 use Rattle.archive_commands.proofs.file_bytes.FileBytesInputSink.take.Goals as goal
 

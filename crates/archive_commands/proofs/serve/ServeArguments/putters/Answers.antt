@@ -1,4 +1,4 @@
-use Rattle.std.proofs.Common.{rules, ◌≡◌, List, ℕ, string_bytes, subst, sym}
+use Rattle.std.proofs.Common.{rules, ◌≡◌, string_bytes, subst}
 use Rattle.archive_commands.specs.Hosts.{IsNoList}
 use Rattle.archive_commands.proofs.serve.ServeArguments.putters.Goals as goal
 

@@ -1,4 +1,4 @@
-use Rattle.std.proofs.Common.{◌≡◌, ◌∙◌}
+use Rattle.std.proofs.Common.{◌∙◌}
 use Rattle.archive_commands.specs.Serve.{HasUsable}
 use Rattle.archive_commands.proofs.Listening.{ends_so, served, server_served}
 use Rattle.archive_commands.proofs.service.Service.run.Goals as goal

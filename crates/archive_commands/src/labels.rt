@@ -1,0 +1,106 @@
+//! How a file is named in the lines about it: where several are sent, each line begins with its name.
+
+ghost use Rattle.std.specs.Prelude.{◌≡◌, ◌≤◌, ◌++◌, OnOk, string_bytes};
+ghost use Rattle.command_line.specs.Faults.{answer_status, status_of};
+ghost use Rattle.archive_commands.specs.Labels.{are_several, label_of};
+
+use crate::reporting::report_more;
+use crate::transfer_wire::TransferWire;
+use command_line::{DONE, Source, ToolFault, report};
+use std::alloc::AllocError;
+use std::fmt::Write as _;
+use std::io::Write;
+use std::slice;
+
+/// Whether several files are sent.
+pub(crate) fn are_several(sources: &[Source]) -> bool
+    ensures { result ≡ are_several sources.now }
+{
+    sources.len() > 1
+}
+
+/// Adds what a line about this file begins with.
+pub(crate) fn push_label(
+    text: &mut String,
+    several: bool,
+    source: &Source,
+) -> Result<(), AllocError>
+    ensures { OnOk result (string_bytes text.new ≡ string_bytes text.old ++ label_of several source.now) }
+{
+    match (several, source) {
+        (false, _) => Ok(()),
+        (true, Source::Standard) => text.push_str("standard input: "),
+        (true, Source::Named(name)) => write!(text, "{name}: "),
+    }
+}
+
+/// The name of a file, as `report` takes it: standard input has none.
+pub(crate) fn names_of(source: &Source) -> &[String] {
+    match source {
+        Source::Standard => &[],
+        Source::Named(name) => slice::from_ref(name),
+    }
+}
+
+/// The name of a file.
+pub(crate) fn name_of(source: &Source) -> &str {
+    match source {
+        Source::Standard => "standard input",
+        Source::Named(name) => name.as_str(),
+    }
+}
+
+/// Reports why a file was not sent, as `report` does, and returns the status. One of several is named.
+pub(crate) fn report_file_fault<E: Write>(
+    fault: ToolFault,
+    several: bool,
+    source: &Source,
+    errors: &mut E,
+) -> u8
+    ensures { result ≡ status_of fault }
+{
+    match (several, fault) {
+        (true, ToolFault::Read)
+        | (true, ToolFault::Write)
+        | (true, ToolFault::Memory)
+        | (true, ToolFault::Socket)
+        | (true, ToolFault::Transfer(_)) => {
+            let _ = writeln!(errors, "tws: {}: {fault}", name_of(source));
+            fault.status()
+        }
+        _ => report(fault, names_of(source), errors),
+    }
+}
+
+/// The same of a fault in a transfer over this wire, with what the server or the system said in a second line.
+pub(crate) fn report_unsent<N: TransferWire, E: Write>(
+    fault: ToolFault,
+    wire: &N,
+    several: bool,
+    source: &Source,
+    errors: &mut E,
+) -> u8
+    ensures { result ≡ status_of fault }
+{
+    let status = report_file_fault(fault, several, source, errors);
+    report_more(fault, wire, errors);
+    status
+}
+
+/// Like `report_unsent`, but reports nothing if the file was sent.
+pub(crate) fn finish_sent<N: TransferWire, E: Write>(
+    done: Result<(), ToolFault>,
+    wire: &N,
+    several: bool,
+    source: &Source,
+    errors: &mut E,
+) -> u8
+    ensures status { result ≡ answer_status done }
+    ensures few { result ≤ 4 }
+    ensures silent { result ≡ 0 → errors.new ≡ errors.old }
+{
+    match done {
+        Ok(()) => DONE,
+        Err(fault) => report_unsent(fault, wire, several, source, errors),
+    }
+}

@@ -1,0 +1,249 @@
+//! Several files are read, and then sent one after the other.
+
+ghost use Rattle.std.specs.Prelude.{◌≡◌, ◌≢◌, ◌≤◌, ◌++◌, false, true, map, OnOk, IfOk, IfErr};
+ghost use Rattle.std.specs.Io.KnownBytes.{Appends};
+ghost use Rattle.command_line.specs.Inputs.{has_standard, is_standard};
+ghost use Rattle.archive_commands.specs.Labels.{are_several, label_of};
+ghost use Rattle.archive_commands.specs.Lines.{LineFails, Unless, sent_line};
+ghost use Rattle.archive_commands.specs.PutFiles.{AreRead, FailsToRead, HasRead, IsFailedStatus, IsUnread, PutsFiles, PutsText, PutsWhole, SendsEach, SendsOne, status_among};
+
+use crate::labels::{are_several, finish_sent, push_label, report_file_fault};
+use crate::line::push_line;
+use crate::put::{PutArguments, put_shown, read_whole};
+use crate::put_better::put_better;
+use crate::run_fault::of_run;
+use crate::syncing::first_of;
+use crate::transfer_wire::TransferWire;
+use byte_output::put;
+use command_line::{DONE, NOT_TRANSFERRED, Source, ToolFault, UNREADABLE, report_file};
+use std::alloc::Global;
+use std::io::{Read, Write};
+use system_files::FileSystem;
+use tftp_packet::Endpoint;
+
+// ---- reading
+
+// Reads a file whole, or reports why not and returns the status.
+fn read_one<S: FileSystem, R: Read, E: Write>(
+    system: &S,
+    alloc: Global,
+    several: bool,
+    source: &Source,
+    input: &mut R,
+    errors: &mut E,
+) -> Result<Vec<u8>, u8>
+    ensures read { IfOk result (λ bytes. HasRead (S.bytes_of system.now) source.now bytes.items (R.remaining input.old) (R.remaining input.new)) }
+    ensures unread { IfErr result (IsUnread (S.bytes_of system.now) source.now (R.remaining input.old) (R.remaining input.new)) }
+    ensures kept { is_standard source.now ≡ false → input.new ≡ input.old }
+    ensures failed { IfErr result IsFailedStatus }
+    ensures silent { OnOk result (errors.new ≡ errors.old) }
+{
+    match source {
+        Source::Standard => match read_whole(alloc, input) {
+            Ok(bytes) => Ok(bytes),
+            Err(fault) => Err(report_file_fault(fault, several, source, errors)),
+        },
+        Source::Named(name) => match system.open(name.as_str()) {
+            Ok(mut file) => match read_whole(alloc, &mut file) {
+                Ok(bytes) => Ok(bytes),
+                Err(fault) => Err(report_file_fault(fault, several, source, errors)),
+            },
+            Err(cause) => Err(report_file(ToolFault::Read, name.as_str(), &cause, errors)),
+        },
+    }
+}
+
+// Reads each file whole, in order, or reports why one is not read and returns the status.
+fn read_all<S: FileSystem, R: Read, E: Write>(
+    system: &S,
+    alloc: Global,
+    sources: &[Source],
+    input: &mut R,
+    errors: &mut E,
+) -> Result<Vec<Vec<u8>>, u8>
+    ensures read { IfOk result (λ texts. AreRead (S.bytes_of system.now) sources.now (map (λ text. text.items) texts.items) (R.remaining input.old) (R.remaining input.new)) }
+    ensures unread { IfErr result (FailsToRead (S.bytes_of system.now) sources.now (R.remaining input.old) (R.remaining input.new)) }
+    ensures kept { has_standard sources.now ≡ false → input.new ≡ input.old }
+    ensures failed { IfErr result IsFailedStatus }
+    ensures silent { OnOk result (errors.new ≡ errors.old) }
+{
+    let several = are_several(sources);
+    let mut texts = Vec::new(alloc);
+    for source in sources {
+        match read_one(system, alloc, several, source, input, errors) {
+            Ok(text) => match texts.push(text) {
+                Ok(()) => {}
+                Err(_lost) => {
+                    return Err(report_file_fault(ToolFault::Memory, several, source, errors));
+                }
+            },
+            Err(status) => return Err(status),
+        }
+    }
+    Ok(texts)
+}
+
+// ---- sending a file whole
+
+// Writes the line for a file that was sent.
+fn say_sent<W: Write>(
+    alloc: Global,
+    several: bool,
+    source: &Source,
+    len: u64,
+    out: &mut W,
+) -> Result<(), ToolFault>
+    ensures said { OnOk result (Appends (W.contents out.old) (W.contents out.new) (label_of several source.now ++ sent_line len)) }
+    ensures fails { IfErr result (LineFails (label_of several source.now ++ sent_line len) (W.contents out.old) (W.contents out.new)) }
+    ensures unwritten { IfErr result (Unless (out.new ≡ out.old)) }
+{
+    let mut text = String::new(alloc);
+    push_label(&mut text, several, source)?;
+    push_line(&mut text, "sent ", len, " bytes")?;
+    put(out, text.as_bytes())?;
+    Ok(())
+}
+
+// Puts a text, and says so.
+fn put_text<N: TransferWire, W: Write>(
+    wire: &mut N,
+    alloc: Global,
+    to: Endpoint,
+    several: bool,
+    source: &Source,
+    text: Vec<u8>,
+    out: &mut W,
+) -> Result<(), ToolFault>
+    ensures puts { PutsText (label_of several source.now) text.items to result (N.calls wire.old) (N.calls wire.new) (W.contents out.old) (W.contents out.new) }
+    ensures unwritten { IfErr result (Unless (out.new ≡ out.old)) }
+{
+    match put_shown(wire, to, text) {
+        Ok(len) => say_sent(alloc, several, source, len, out),
+        Err(fault) => Err(of_run(fault)),
+    }
+}
+
+// The same, with a report of why not, and the status.
+fn put_whole<N: TransferWire, W: Write, E: Write>(
+    wire: &mut N,
+    alloc: Global,
+    to: Endpoint,
+    several: bool,
+    source: &Source,
+    text: Vec<u8>,
+    out: &mut W,
+    errors: &mut E,
+) -> u8
+    ensures puts { PutsWhole (label_of several source.now) text.items to result (N.calls wire.old) (N.calls wire.new) (W.contents out.old) (W.contents out.new) }
+    ensures usage { result ≢ 1 }
+    ensures few { result ≤ 4 }
+    ensures unwritten { result ≢ 0 → result ≢ 2 → out.new ≡ out.old }
+    ensures silent { result ≡ 0 → errors.new ≡ errors.old }
+{
+    let done = put_text(wire, alloc, to, several, source, text, out);
+    finish_sent(done, wire, several, source, errors)
+}
+
+// ---- sending each file
+
+// Sends a text as it is asked, and returns the status.
+fn send_one<N: TransferWire, W: Write, E: Write>(
+    wire: &mut N,
+    alloc: Global,
+    arguments: &PutArguments,
+    to: Endpoint,
+    several: bool,
+    source: &Source,
+    text: Vec<u8>,
+    out: &mut W,
+    errors: &mut E,
+) -> u8
+    ensures sends { SendsOne arguments.now.better (label_of several source.now) text.items to result (N.calls wire.old) (N.calls wire.new) (W.contents out.old) (W.contents out.new) }
+    ensures usage { result ≢ 1 }
+    ensures few { result ≤ 4 }
+    ensures unwritten { result ≢ 0 → result ≢ 2 → out.new ≡ out.old }
+    ensures silent { result ≡ 0 → errors.new ≡ errors.old }
+{
+    if arguments.better {
+        let address = &arguments.target.address;
+        put_better(
+            wire, alloc, &text, to, several, source, address, out, errors,
+        )
+    } else {
+        put_whole(wire, alloc, to, several, source, text, out, errors)
+    }
+}
+
+// The status for one of several files. There 3 would say that nothing was sent, so a collection that is no solution file
+// counts as a failed transfer.
+fn status_among(several: bool, status: u8) -> u8
+    ensures { result ≡ status_among several status }
+{
+    if several && status == UNREADABLE {
+        NOT_TRANSFERRED
+    } else {
+        status
+    }
+}
+
+// Sends each file, whatever comes of those before it, and returns the status of the first fault. `texts` are those of the
+// sources, in order.
+fn send_each<N: TransferWire, W: Write, E: Write>(
+    wire: &mut N,
+    alloc: Global,
+    arguments: &PutArguments,
+    to: Endpoint,
+    sources: &[Source],
+    texts: Vec<Vec<u8>>,
+    out: &mut W,
+    errors: &mut E,
+) -> u8
+    ensures sends { SendsEach arguments.now.better (are_several sources.now) to sources.now (map (λ text. text.items) texts.items) result (N.calls wire.old) (N.calls wire.new) (W.contents out.old) (W.contents out.new) }
+    ensures usage { result ≢ 1 }
+    ensures few { result ≤ 4 }
+    ensures unreadable { are_several sources.now ≡ true → result ≢ 3 }
+    ensures unwritten { are_several sources.now ≡ false → result ≢ 0 → result ≢ 2 → out.new ≡ out.old }
+    ensures silent { result ≡ 0 → errors.new ≡ errors.old }
+{
+    let several = are_several(sources);
+    let mut status = DONE;
+    let mut texts = texts.into_iter();
+    for source in sources {
+        let Some(text) = texts.next() else {
+            return status;
+        };
+        let one = send_one(
+            wire, alloc, arguments, to, several, source, text, out, errors,
+        );
+        status = first_of(status, status_among(several, one));
+    }
+    status
+}
+
+// ---- the whole
+
+/// Reads all files, and then sends each of them as it is asked; or reports why not. Returns the status.
+pub(crate) fn put_files<S: FileSystem, N: TransferWire, R: Read, W: Write, E: Write>(
+    system: &S,
+    wire: &mut N,
+    alloc: Global,
+    arguments: &PutArguments,
+    to: Endpoint,
+    input: &mut R,
+    out: &mut W,
+    errors: &mut E,
+) -> u8
+    ensures puts { PutsFiles (S.bytes_of system.now) arguments.now.better arguments.now.sources.items to result (N.calls wire.old) (N.calls wire.new) (R.remaining input.old) (R.remaining input.new) (W.contents out.old) (W.contents out.new) }
+    ensures kept { has_standard arguments.now.sources.items ≡ false → input.new ≡ input.old }
+    ensures usage { result ≢ 1 }
+    ensures few { result ≤ 4 }
+    ensures unreadable { are_several arguments.now.sources.items ≡ true → result ≡ 3 → out.new ≡ out.old }
+    ensures unwritten { are_several arguments.now.sources.items ≡ false → result ≢ 0 → result ≢ 2 → out.new ≡ out.old }
+    ensures silent { result ≡ 0 → errors.new ≡ errors.old }
+{
+    let sources = arguments.sources.as_slice();
+    match read_all(system, alloc, sources, input, errors) {
+        Ok(texts) => send_each(wire, alloc, arguments, to, sources, texts, out, errors),
+        Err(status) => status,
+    }
+}
