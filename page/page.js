@@ -10,6 +10,10 @@
 const files = [];
 /** @type {Level[]} */
 let levels = [];
+/** Mine and theirs, once they were chosen. @type {Shown[]} */
+let pair = [];
+// The comparison that was asked for last: what an earlier one answers is too late.
+let lastComparison = 0;
 /** Where the archive's put.cgi is, if it is there. @type {string | undefined} */
 let sender;
 
@@ -60,6 +64,7 @@ function textOf(bytes) {
 function faultOf(answer, asked) {
   if (answer.status === 2) return `${asked.map((file) => file.name).join(" and ")}: too large for this browser`;
   const words = textOf(answer.bytes);
+  if (words === "different rulesets") return `${asked.map((file) => file.name).join(" and ")} are of different rulesets`;
   const which = words.startsWith("second file: ") ? 1 : 0;
   return `${asked[which].name}: ${words.replace(/^(first|second) file: /, "")}`;
 }
@@ -120,7 +125,8 @@ function columnsOf(file) {
     const level = known.get(keyOf(row));
     return level ? timeLeft(level.limit, row.ticks, file.ruleset) : "";
   };
-  const left = { key: "left", by: "ticks", name: "Time left", number: true, shows: leftOf };
+  const ticks = (row) => ticksLeft({ ...known.get(keyOf(row)), ticks: row.ticks }, "ticks");
+  const left = { key: "left", by: ticks, name: "Time left", number: true, shows: leftOf };
   for (const row of file.solved) row.name = (known.get(keyOf(row)) || { name: "" }).name;
   return [
     { key: "level", name: "Level", number: true },
@@ -165,6 +171,11 @@ function fill(select, options, chosen) {
   }));
 }
 
+/** Mine and theirs as they were chosen, if they are still there; else the first that can be compared. */
+function currentPair() {
+  return pair.length === 2 && pair.every((file) => files.includes(file)) ? pair : chosenPair();
+}
+
 /** What is compared first: the last file that has another of its ruleset, and that one, the archive's if it is there. */
 function chosenPair() {
   for (const mine of readable().filter((file) => !file.archive).reverse()) {
@@ -180,13 +191,13 @@ function betterName(mine, theirs) {
   return theirs.archive ? "better.tws" : `${stemOf(mine.name)}-better.tws`;
 }
 
-/** @param {Shown} mine @param {Shown} theirs */
-function comparisonButtons(mine, theirs) {
+/** @param {Shown} mine @param {Shown} theirs @param {Standing[]} rows */
+function comparisonButtons(mine, theirs, rows) {
   const better = betterName(mine, theirs);
-  const made = [
-    button("Save what is better in mine", () => save(better, "files_better", mine, theirs)),
-    button("Save the best of both", () => save(`best-${mine.ruleset}.tws`, "files_best", mine, theirs)),
-  ];
+  const made = [button("Save the best of both", () => save(`best-${mine.ruleset}.tws`, "files_best", mine, theirs))];
+  if (rows.some((row) => row.side === "mine")) {
+    made.unshift(button("Save what is better in mine", () => save(better, "files_better", mine, theirs)));
+  }
   const all = readable(mine.ruleset).length;
   if (all > 2) made.push(button(`Save the best of all ${all}`, () => saveBest(mine.ruleset)));
   return made;
@@ -206,15 +217,19 @@ function sendingOf(mine, theirs, rows) {
 async function compare() {
   const at = (id) => files[Number(byId(id).value)];
   const mine = at("mine"), theirs = at("theirs");
-  const show = (counts, ...parts) => {
+  const turn = ++lastComparison;
+  const show = (counts, isFault, ...parts) => {
     byId("counts").textContent = counts;
+    byId("counts").className = isFault ? "fault" : "";
     byId("comparison-buttons").replaceChildren(...(parts[0] || []));
     byId("send").replaceChildren(...(parts[1] || []));
     byId("comparison-table").replaceChildren(...(parts[2] || []));
   };
   byId("plot").hidden = true;
+  show("", false);
   const answer = await call("files_compared", [mine.bytes, theirs.bytes]);
-  if (answer.status !== 0) return show(faultOf(answer, [mine, theirs]));
+  if (turn !== lastComparison) return;
+  if (answer.status !== 0) return show(faultOf(answer, [mine, theirs]), true);
   const { rows, counts } = comparisonIn(textOf(answer.bytes));
   const known = new Map(levels.map((level) => [keyOf(level), level.name]));
   for (const row of rows) row.name = known.get(keyOf(row)) || "";
@@ -222,10 +237,10 @@ async function compare() {
     { key: "level", name: "Level", number: true },
     { key: "password", name: "Password" },
     ...(known.size ? [{ key: "name", name: "Name" }] : []),
-    { key: "words", name: "Result" },
+    { key: "words", name: "Result", by: gainOf },
   ];
   const table = tableOf("Comparison", columns, rows, (row) => (row.side === "tie" ? "" : row.side));
-  show(countsShown(counts), comparisonButtons(mine, theirs), sendingOf(mine, theirs, rows), [table]);
+  show(countsShown(counts), false, comparisonButtons(mine, theirs, rows), sendingOf(mine, theirs, rows), [table]);
   plot(byId("plot"), rows);
 }
 
@@ -281,8 +296,9 @@ async function fetchFolder() {
 // ---- all of it
 
 function drawLevels() {
-  const of = (ruleset) => readable(ruleset).find((file) => file.archive) || readable(ruleset).at(-1) || { solved: [] };
-  const lynx = of("lynx").solved, ms = of("ms").solved;
+  const of = (ruleset) => readable(ruleset).find((file) => file.archive) || readable(ruleset).at(-1) || { solved: [], name: "" };
+  const whose = { lynx: of("lynx"), ms: of("ms") };
+  const lynx = whose.lynx.solved, ms = whose.ms.solved;
   const both = lynx.length > 0 && ms.length > 0;
   byId("levels").hidden = !both && levels.length === 0;
   if (byId("levels").hidden) return;
@@ -293,9 +309,13 @@ function drawLevels() {
     { key: "level", name: "Level", number: true },
     { key: "password", name: "Password" },
     ...(levels.length ? [{ key: "name", name: "Name" }, limit] : []),
-    ...rulesets.map((key) => ({ key, name: RULESET_NAMES[key], number: true, shows: (row) => timeShown(row, key) })),
+    ...rulesets.map((key) => ({
+      key, name: RULESET_NAMES[key], by: levels.length ? (row) => ticksLeft(row, key) : key, number: true,
+      shows: (row) => timeShown(row, key),
+    })),
   ];
-  byId("totals").textContent = rulesets.map((key) => `${RULESET_NAMES[key]}: ${totalShown(rows, key)}.`).join(" ");
+  const from = (key) => (whose[key].name ? `, by ${whose[key].name}` : "");
+  byId("totals").textContent = rulesets.map((key) => `${RULESET_NAMES[key]}: ${totalShown(rows, key)}${from(key)}.`).join(" ");
   const isOpen = (row) => row.lynx === undefined && row.ms === undefined;
   const table = tableOf("Level by level", columns, rows, (row) => (isOpen(row) ? "unsolved" : ""));
   byId("levels-table").replaceChildren(table);
@@ -304,7 +324,7 @@ function drawLevels() {
 function draw() {
   byId("files").replaceChildren(...files.map(sectionOf));
   drawLevels();
-  const [mine, theirs] = chosenPair();
+  const [mine, theirs] = currentPair();
   byId("comparison").hidden = !theirs;
   if (!theirs) return;
   fill(byId("mine"), readable(), mine);
@@ -312,21 +332,39 @@ function draw() {
   compare();
 }
 
-/** @param {Iterable<File>} chosen */
-async function add(chosen) {
-  for (const one of chosen) {
-    say(`Reading ${one.name}.`);
-    const bytes = new Uint8Array(await one.arrayBuffer());
-    if (/\.csv$/i.test(one.name)) {
-      levels = levelsIn(textOf(bytes));
-      say(`${one.name}: ${counted(levels.length, "level")}.`, levels.length === 0);
-      continue;
+/** Reads a file or a list of levels, and returns what is to be said of it. @param {File} one */
+async function addOne(one) {
+  const name = shownName(one.name);
+  say(`Reading ${name}.`);
+  const bytes = new Uint8Array(await one.arrayBuffer());
+  if (/\.csv$/i.test(name)) {
+    const found = levelsIn(textOf(bytes));
+    if (found.length === 0 || hasSolutions(textOf(bytes))) {
+      return { words: `${name}: no list of levels, with number, password, name and time limit.`, isFault: true };
     }
-    const file = await read(one.name, bytes, false);
-    files.push(file);
-    say(file.fault || `${one.name}: ${counted(file.solved.length, "solution")}.`, !file.solved);
+    levels = found;
+    return { words: `${name}: ${counted(levels.length, "level")}.`, isFault: false };
+  }
+  const file = await read(name, bytes, false);
+  files.push(file);
+  const words = file.solved ? `${name}: ${counted(file.solved.length, "solution")}.` : `${file.fault}.`;
+  return { words, isFault: !file.solved };
+}
+
+/** What went wrong with each file is said, or else what was read last. @param {Iterable<File>} chosen */
+async function add(chosen) {
+  const faults = [];
+  let last = "";
+  for (const one of chosen) {
+    try {
+      const { words, isFault } = await addOne(one);
+      isFault ? faults.push(words) : last = words;
+    } catch {
+      faults.push(`${shownName(one.name)}: it cannot be read.`);
+    }
   }
   draw();
+  say([...faults, last].filter((words) => words).join(" "), faults.length > 0);
 }
 
 async function start() {
@@ -352,10 +390,14 @@ byId("choose").onchange = async (event) => {
   // The same file can be chosen again.
   event.target.value = "";
 };
-byId("mine").onchange = byId("theirs").onchange = compare;
+const choosePair = () => {
+  pair = ["mine", "theirs"].map((id) => files[Number(byId(id).value)]);
+  compare();
+};
+byId("mine").onchange = byId("theirs").onchange = choosePair;
 byId("swap").onclick = () => {
   [byId("mine").value, byId("theirs").value] = [byId("theirs").value, byId("mine").value];
-  compare();
+  choosePair();
 };
 const letters = atob(byId("module").textContent.trim());
 window.onunhandledrejection = (event) => say(`This went wrong in the page: ${event.reason}`, true);

@@ -12,6 +12,7 @@ const NO_LIMIT = 999;
 
 /** Ticks as seconds. @param {number} ticks */
 function secondsText(ticks) {
+  if (ticks < 0) return `-${secondsText(-ticks)}`;
   const hundredths = (ticks % TICKS_PER_SECOND) * 5;
   return `${Math.floor(ticks / TICKS_PER_SECOND)}.${String(hundredths).padStart(2, "0")}`;
 }
@@ -24,6 +25,11 @@ function timeLeft(limit, ticks, ruleset) {
   const whole = (limit || NO_LIMIT) - Math.floor(ticks / TICKS_PER_SECOND);
   const rest = ticks % TICKS_PER_SECOND;
   return `${whole} - .${ruleset === "ms" ? Math.floor(rest / 2) : String(rest * 5).padStart(2, "0")}`;
+}
+
+/** A name as pages show it: what would turn or break the words around it is left out. @param {string} name */
+function shownName(name) {
+  return name.replace(/[\p{Cc}\u061c\u200e\u200f\u2028-\u202e\u2066-\u2069]/gu, "?");
 }
 
 /** A password as pages show it: four printable characters as they are, else `x` and digits. @param {string} text */
@@ -71,6 +77,12 @@ function standingShown(words) {
   return words.replace(/by (\d+) ticks/, (_, ticks) => `by ${secondsText(Number(ticks))} s`);
 }
 
+/** By how much mine is the better one, for sorting: what only one has is at an end. @param {Standing} row */
+function gainOf(row) {
+  const most = row.words.startsWith("only") ? Infinity : row.ticks;
+  return row.side === "mine" ? most : row.side === "theirs" ? -most : 0;
+}
+
 /** The rows of a comparison, and its last line. @param {string} text @returns {{rows: Standing[], counts: string}} */
 function comparisonIn(text) {
   const lines = text.trimEnd().split("\n");
@@ -103,36 +115,52 @@ function fieldsOf(line) {
   return line.endsWith(",") ? [...fields, ""] : fields;
 }
 
+/** Whether a text is the solutions of a file, as the page saves them, and no list of levels. @param {string} text */
+function hasSolutions(text) {
+  return fieldsOf(text.replace(/^\ufeff/, "").split(/\r?\n/)[0]).includes("ticks");
+}
+
 /**
- * The levels of a set: each line has a number, and may have a password, a name and a time limit. A line that does not
- * begin with a number says nothing.
+ * The levels of a set: each line has a number, and may have a password, a name and a time limit in seconds. A line that does
+ * not begin with a number says nothing, nor does one of a level that an earlier line has.
  * @param {string} text @returns {Level[]}
  */
 function levelsIn(text) {
-  return text.replace(/^\ufeff/, "").split(/\r?\n/).map(fieldsOf).filter((fields) => /^\d+$/.test(fields[0] || ""))
-    .map(([level, password = "", name = "", limit = ""]) => ({
-      level: Number(level),
-      password: shownPassword(password),
-      name,
-      limit: Number(limit) || 0,
-    }));
+  const found = new Map();
+  for (const fields of text.replace(/^\ufeff/, "").split(/\r?\n/).map(fieldsOf)) {
+    const [number = "", password = "", name = "", limit = ""] = fields;
+    if (!/^\d{1,5}$/.test(number)) continue;
+    const seconds = /^\d{1,6}$/.test(limit) ? Number(limit) : 0;
+    const level = { level: Number(number), password: shownPassword(password), name: shownName(name), limit: seconds };
+    if (!found.has(keyOf(level))) found.set(keyOf(level), level);
+  }
+  return [...found.values()];
+}
+
+/** What a row has, by a property or a function. @param {object} row @param {string | ((row: object) => any)} what */
+function valueOf(row, what) {
+  return typeof what === "function" ? what(row) : row[what];
 }
 
 /**
- * Rows in the order of a property; those that lack it are last.
- * @param {object[]} rows @param {string} by @param {boolean} falls
+ * Rows in the order of a property, or of what a function makes of them; those that lack it are last.
+ * @param {object[]} rows @param {string | ((row: object) => any)} what @param {boolean} falls
  */
-function sorted(rows, by, falls) {
-  const has = rows.filter((row) => row[by] !== undefined), lacks = rows.filter((row) => row[by] === undefined);
-  const order = (a, b) => (a[by] < b[by] ? -1 : a[by] > b[by] ? 1 : 0);
+function sorted(rows, what, falls) {
+  const by = new Map(rows.map((row) => [row, valueOf(row, what)]));
+  const has = rows.filter((row) => by.get(row) !== undefined), lacks = rows.filter((row) => by.get(row) === undefined);
+  const order = (a, b) => (by.get(a) < by.get(b) ? -1 : by.get(a) > by.get(b) ? 1 : 0);
   return [...has.sort((a, b) => (falls ? order(b, a) : order(a, b))), ...lacks];
 }
 
-/** The rows in which a column has the text. @param {object[]} rows @param {string} text @param {string[]} columns */
+/**
+ * The rows in which a column, a property or what a function makes of a row, has the text.
+ * @param {object[]} rows @param {string} text @param {(string | ((row: object) => any))[]} columns
+ */
 function filtered(rows, text, columns) {
   const wanted = text.trim().toLowerCase();
   if (wanted === "") return rows;
-  return rows.filter((row) => columns.some((column) => String(row[column] ?? "").toLowerCase().includes(wanted)));
+  return rows.filter((row) => columns.some((column) => String(valueOf(row, column) ?? "").toLowerCase().includes(wanted)));
 }
 
 /**
@@ -160,6 +188,12 @@ function totalShown(rows, ruleset) {
   const ticks = timed.reduce((sum, row) => sum + row.limit * TICKS_PER_SECOND - row[ruleset], 0);
   const many = `${solved.length} of ${rows.length} solved`;
   return timed.length === 0 ? many : `${many}, ${secondsText(ticks)} s left`;
+}
+
+/** The ticks that are left, by which times are sorted, where the level is known. @param {object} row @param {string} ruleset */
+function ticksLeft(row, ruleset) {
+  if (row[ruleset] === undefined || row.limit === undefined) return undefined;
+  return (row.limit || NO_LIMIT) * TICKS_PER_SECOND - row[ruleset];
 }
 
 /** What a level's cell shows of a ruleset. @param {object} row @param {string} ruleset */

@@ -40,14 +40,18 @@ function download(bytes, name) {
 }
 
 /**
- * A column: its key, its name, the property by which it sorts, if that is not its key, and what its cells show.
- * @typedef {{key: string, name: string, by?: string, number?: boolean, shows?: (row: object) => string}} Column
+ * A column: its key, its name, the property or function by which it sorts, if that is not its key, and what its cells show.
+ * @typedef {{key: string, name: string, by?: string | ((row: object) => any), number?: boolean, shows?: (row: object) => string}} Column
  */
 
 /** @param {Column} column @param {object} row */
+function cellText(column, row) {
+  return column.shows ? column.shows(row) : String(row[column.key] ?? "");
+}
+
+/** @param {Column} column @param {object} row */
 function cellOf(column, row) {
-  const text = column.shows ? column.shows(row) : String(row[column.key] ?? "");
-  return element("td", text, column.number ? "number" : "");
+  return element("td", cellText(column, row), column.number ? "number" : "");
 }
 
 /**
@@ -84,7 +88,7 @@ function tableOf(label, columns, rows, className) {
   let limit = ROWS_AT_ONCE;
   more.append(button("Show more rows", () => { limit += ROWS_AT_ONCE; draw(); }));
   const draw = (pressed) => {
-    const found = filtered(rows, search.value, columns.map((column) => column.key));
+    const found = filtered(rows, search.value, columns.map((column) => (row) => cellText(column, row)));
     const by = columns.find((column) => column.key === order.column);
     const shown = (by ? sorted(found, by.by || by.key, order.falls) : found).slice(0, limit);
     const body = element("tbody", "");

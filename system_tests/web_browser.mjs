@@ -95,6 +95,13 @@ async function alone() {
   const solved = Number(count("levels")) - Number(count("only theirs"));
   const totals = await tab.run("document.getElementById('totals').textContent");
   check("level by level", totals.startsWith(`Lynx: ${solved} of ${count("levels")} solved`));
+  await tab.run(`add([{ name: "gone.tws", arrayBuffer: () => Promise.reject(new Error()) }, new File(["level,ticks\\n1,2\\n"], "mine.csv"),
+    new File(["GIF"], "bad\u202e.tws")])`);
+  check("what is wrong with each file is said", await tab.until(`${said}.startsWith("gone.tws: it cannot be read. mine.csv: no list of levels") &&
+    ${said}.includes("bad?.tws: ") && document.querySelectorAll('#files section').length === 6`));
+  check("the levels stay", (await tab.run("document.getElementById('totals').textContent")) === totals);
+  check("so does what was chosen", (await tab.run("document.getElementById('mine').selectedOptions[0].textContent")) === "theirs.tws");
+  await tab.press("Remove", "#files section:last-child");
   await tab.press("Remove");
   check("removed", await tab.until("document.querySelectorAll('#files section').length === 4"));
   await tab.run(`new MutationObserver(() => { window.hasWorked ||= !document.getElementById("working").hidden; })
