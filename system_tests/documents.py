@@ -24,8 +24,8 @@ Dec
 
 # Files that are no part of the tree: a server's, those of its history, a player's, and Tile World's.
 FOREIGN_FILES = {
-    "best.tws", "lynx.tws", "ms.tws", "upload.tws", "solution.c", "sent/0-lynx.tws",
-    "20261127T091501.004Z-127.0.0.1-5000-lynx.tws", "20261127T091501.004Z-203.0.113.7-5000-lynx.tws",
+    "best.tws", "lynx.tws", "ms.tws", "upload.tws", "solution.c", "sent/2026-11-27/0-lynx.tws",
+    "2026-11-27/20261127T091501.004Z-203.0.113.7-5000-lynx.tws",
 }
 
 # What the scripts at the top make.

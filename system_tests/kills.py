@@ -91,14 +91,14 @@ class Archive:
         """Puts a file: the client's status, and what it printed as an error."""
         self.client = run("put", "127.0.0.1", path, "--port", self.port, out=subprocess.DEVNULL, errors=subprocess.PIPE)
         _, errors = self.client.communicate()
-        self.gave_up += errors == GIVES_UP
+        self.gave_up += errors.startswith(GIVES_UP)
         return self.client.returncode, errors
 
     def send(self, path):
         """Puts a file until it counts as sent."""
         for _ in range(TRIES):
             status, errors = self.put(path)
-            if errors != GIVES_UP:
+            if not errors.startswith(GIVES_UP):
                 break
         check(f"{self.name}: put, status {status}, {errors}", status == 0)
         self.taken.append(path)
@@ -138,7 +138,7 @@ class Archive:
                 running = path
         killer.join()
         # A put is sent, or its client was killed after the server was, or gave up since the server hung in a keep.
-        check(f"{self.name}: the last put, status {status}, {errors}", status in (0, -signal.SIGKILL) or errors == GIVES_UP)
+        check(f"{self.name}: the last put, status {status}, {errors}", status in (0, -signal.SIGKILL) or errors.startswith(GIVES_UP))
         return running
 
     def round(self):

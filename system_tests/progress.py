@@ -34,7 +34,7 @@ def tws_file(length):
 
 
 class Server(threading.Thread):
-    """Takes one request, and answers each datagram after a pause; with a pause of None it never does."""
+    """Answers each datagram after a pause; with a pause of None it never does. One request comes after the other."""
 
     def __init__(self, pause, file=b""):
         super().__init__(daemon=True)
@@ -58,7 +58,7 @@ class Server(threading.Thread):
                 block = 0 if opcode == 1 else block
                 body = self.file[512 * block:512 * block + 512]
                 if block * 512 > len(self.file):
-                    return
+                    continue
                 self.end.sendto(struct.pack(">HH", 3, block + 1) + body, client)
             elif opcode in (2, 3):
                 self.end.sendto(struct.pack(">HH", 4, 0 if opcode == 2 else block), client)
@@ -115,11 +115,11 @@ class Run:
         return "\n".join(lines)
 
 
-def figures(run, name, length):
+def figures(lines, name, length):
     """Checks that each line is what is true of a transfer at that moment. Of a get the length is None."""
     form = r"block (\d+), (\d+) bytes, (\d+) bytes/s" + ("" if length is None else r", (\d+) bytes left")
     last = 0
-    for line in run.drawn():
+    for line in lines:
         match = re.fullmatch(form, line)
         check(f"{name}, the line {line!r}", match)
         if not match:
@@ -141,7 +141,7 @@ def slow_put():
     check(f"a slow put: {run.shown}", run.status == 0 and run.out == f"sent {len(data)} bytes\n".encode())
     check(f"a slow put is shown after a second, not {run.first}", run.first and run.first >= 1)
     check("a slow put is shown more than once", len(run.drawn()) >= 3)
-    check("a slow put comes far", figures(run, "a slow put", len(data)) >= 15)
+    check("a slow put comes far", figures(run.drawn(), "a slow put", len(data)) >= 15)
     check(f"a slow put leaves nothing: {run.shown[-60:]}", run.shown.endswith(ERASED) and run.screen() == "")
 
 
@@ -151,8 +151,25 @@ def slow_get():
     run = Run([*words, str(Server(0.08, data).port)], both=True)
     check(f"a slow get: {run.shown}", run.status == 0 and open(f"{FOLDER}/got.tws", "rb").read() == data)
     check("a slow get is shown more than once", len(run.drawn()) >= 3)
-    check("a slow get comes far", figures(run, "a slow get", None) >= 15)
+    check("a slow get comes far", figures(run.drawn(), "a slow get", None) >= 15)
     check(f"a slow get leaves its line alone: {run.screen()!r}", run.screen() == f"got {len(data)} bytes\n")
+
+
+def slow_better():
+    """A get and a put, one after the other: each is shown as if it were alone."""
+    theirs = tws_file(512 * 20 + 100)
+    mine = theirs[:24] + struct.pack("<I", 50) + theirs[28:]
+    with open(f"{FOLDER}/better.tws", "wb") as out:
+        out.write(mine)
+    run = Run(["put", "127.0.0.1", f"{FOLDER}/better.tws", "--better", "--port", str(Server(0.08, theirs).port)])
+    says = f"levels 1 only mine 0 only theirs 0 mine better 1 theirs better 0 equal 0 tie 0\nsent {len(mine)} bytes\n"
+    check(f"a slow put --better: {run.shown}", run.status == 0 and run.out == says.encode())
+    lines = run.drawn()
+    middle = lines.index("") if "" in lines else len(lines)
+    check(f"both are shown more than once: {lines}", middle >= 3 and len(lines) - middle >= 4)
+    check("its get comes far", figures(lines[:middle], "the get", None) >= 15)
+    check("its put comes far", figures(lines[middle + 1:], "the put", len(mine)) >= 15)
+    check(f"it leaves nothing: {run.shown[-60:]}", run.shown.endswith(ERASED) and run.screen() == "")
 
 
 def quick():
@@ -161,10 +178,12 @@ def quick():
 
 
 def silent():
-    run = Run(["put", "127.0.0.1", f"{FOLDER}/slow.tws", "--port", str(Server(None).port)])
+    port = Server(None).port
+    run = Run(["put", "127.0.0.1", f"{FOLDER}/slow.tws", "--port", str(port)])
     check("no answer", run.status == 4)
-    check(f"no answer comes nowhere: {run.drawn()}", run.drawn() and figures(run, "no answer", 512 * 20 + 100) == 0)
-    check(f"no answer leaves the fault: {run.screen()!r}", run.screen() == "tws: transfer failed: timed out\n")
+    check(f"no answer comes nowhere: {run.drawn()}", run.drawn() and figures(run.drawn(), "no answer", 512 * 20 + 100) == 0)
+    says = f"tws: no answer from 127.0.0.1 port {port}: does the archive run there, and may its answers come in?"
+    check(f"no answer leaves the fault: {run.screen()!r}", run.screen() == f"tws: transfer failed: timed out\n{says}\n")
 
 
 def piped():
@@ -173,7 +192,7 @@ def piped():
     check(f"without a terminal nothing is shown: {run.stderr}", run.returncode == 0 and run.stderr == b"")
 
 
-for test in (slow_put, slow_get, quick, silent, piped):
+for test in (slow_put, slow_get, slow_better, quick, silent, piped):
     test()
 print(f"{counts[True]} passed, {counts[False]} failed")
 sys.exit(1 if counts[False] else 0)

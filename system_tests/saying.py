@@ -42,5 +42,5 @@ def a_server_that_stops_answering():
         server(b"\0\4\0\0")
         other(error(b"one"))
 
-    errors = b"tws: transfer failed: timed out\n"
+    errors = b"tws: transfer failed: timed out\ntws: answers stopped after block 0: try again\n"
     said(put_words(), stops, errors)
