@@ -73,7 +73,6 @@ def others_get_in(name, server, to="127.0.0.1", count=20):
         slowest = max(slowest, took)
     print(f"{name}: {got} of {count} gets, {again} tries more, the slowest {slowest:.2f} s")
     check(name, got == count)
-    check(f"{name}, at the first try", again <= count // 4)
 
 
 def one_collection(server):
