@@ -143,7 +143,12 @@ function sectionOf(file, place) {
   const section = document.createElement("section"), title = element("h2", file.name);
   title.id = `file-${place}`;
   section.setAttribute("aria-labelledby", title.id);
-  const remove = button("Remove", () => { files.splice(files.indexOf(file), 1); draw(); });
+  const remove = button("Remove", () => {
+    files.splice(files.indexOf(file), 1);
+    draw();
+    say(`${file.name} is removed from the page.`);
+    byId("choose").focus();
+  });
   section.append(title);
   if (!file.solved) {
     section.append(element("p", `Unreadable. ${file.fault}`, "fault"), remove);
@@ -240,7 +245,8 @@ async function compare() {
     { key: "words", name: "Result", by: gainOf },
   ];
   const table = tableOf("Comparison", columns, rows, (row) => (row.side === "tie" ? "" : row.side));
-  show(countsShown(counts), false, comparisonButtons(mine, theirs, rows), sendingOf(mine, theirs, rows), [table]);
+  const apart = rows.length > 0 && rows.every((row) => row.words.startsWith("only")) && mine.solved.length * theirs.solved.length > 0;
+  show(countsShown(counts) + (apart ? ". No level is in both: are they of one level set?" : ""), false, comparisonButtons(mine, theirs, rows), sendingOf(mine, theirs, rows), [table]);
   plot(byId("plot"), rows);
 }
 

@@ -187,7 +187,9 @@ function totalShown(rows, ruleset) {
   const timed = solved.filter((row) => row.limit > 0);
   const ticks = timed.reduce((sum, row) => sum + row.limit * TICKS_PER_SECOND - row[ruleset], 0);
   const many = `${solved.length} of ${rows.length} solved`;
-  return timed.length === 0 ? many : `${many}, ${secondsText(ticks)} s left`;
+  const untimed = solved.length - timed.length;
+  const without = untimed === 0 ? "" : ` without ${untimed} that ${untimed === 1 ? "has" : "have"} no limit`;
+  return timed.length === 0 ? many : `${many}, ${secondsText(ticks)} s left${without}`;
 }
 
 /** The ticks that are left, by which times are sorted, where the level is known. @param {object} row @param {string} ruleset */

@@ -73,7 +73,7 @@ same("by the time left", tables.sorted(rows, (row) => tables.ticksLeft(row, "lyn
 same("ticks left", [{ limit: 200, lynx: 100 }, { limit: 0, lynx: 11 }, { lynx: 5 }, { limit: 9 }].map((row) => tables.ticksLeft(row, "lynx")),
   [3900, 19969, undefined, undefined]);
 same("totals", ["lynx", "ms"].map((ruleset) => tables.totalShown(rows, ruleset)),
-  ["2 of 4 solved, 195.00 s left", "1 of 4 solved"]);
+  ["2 of 4 solved, 195.00 s left without 1 that has no limit", "1 of 4 solved"]);
 
 same("sorted", tables.sorted([{ a: 2 }, {}, { a: 10 }, { a: 1 }], "a", true).map((row) => row.a), [10, 2, 1, undefined]);
 same("filtered", tables.filtered([{ a: "Keys", b: 1 }, { a: "End", b: 10 }], " E", ["a"]).length, 2);
