@@ -1,5 +1,7 @@
 """Rows of `hostile.py`: what a client says of a server that a script plays."""
-from attacking import check, done, end, file, record, run
+import os
+
+from attacking import FOLDER, HEADER, check, done, end, file, record, run
 
 
 def said(words, answer, errors):
@@ -36,7 +38,7 @@ def what_a_server_says():
 
 
 def a_server_that_stops_answering():
-    """A put whose request alone is answered. What another port says is not the server's."""
+    """A put whose request alone is answered, where what another port says is not the server's; and a get that gets one block."""
 
     def stops(server, other):
         server(b"\0\4\0\0")
@@ -44,3 +46,9 @@ def a_server_that_stops_answering():
 
     errors = b"tws: transfer failed: timed out\ntws: answers stopped after block 0: try again\n"
     said(put_words(), stops, errors)
+
+    def stops_later(server, _):
+        server(b"\0\3\0\1" + (HEADER + record(1, moves=b"\x61" * 700))[:512])
+
+    errors = b"tws: transfer failed: timed out\ntws: answers stopped after block 1: try again\n"
+    said(("get", "127.0.0.1", "lynx", os.path.join(FOLDER, "said.got")), stops_later, errors)
