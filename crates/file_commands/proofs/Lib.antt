@@ -2,3 +2,5 @@ pub mod Collecting
 pub mod Paging
 pub mod Comparing
 pub mod Removing
+pub mod Unsaid
+pub mod Noting

@@ -8,10 +8,13 @@ use Rattle.tws_file.specs.Text.{IsReadable}
 use Rattle.byte_output.specs.Output.{AppendsPrefix}
 use Rattle.tws_best.specs.Best.{Collected, IsCollectionOf, collection_text}
 use Rattle.command_line.specs.declared.tool_fault.ToolFault.{ToolFault}
+use Rattle.command_line.specs.Inputs.{knowns_of}
 use Rattle.command_line.specs.Arguments.{HasRuleset, HasSources, RulesetNames, files_rule, ruleset_rule}
 use Rattle.show_commands.specs.Output.{output_rule}
 use Rattle.file_commands.specs.declared.best.BestArguments.{BestArguments}
+use Rattle.show_commands.specs.Saying.{SaysOfFiles}
 use Rattle.show_commands.specs.SeveralInputs.{AreReported, FilesFail, FilesRanFrom}
+use Rattle.file_commands.specs.Notes.{files_note}
 
 abbrev pub best_name : Text
 best_name = codes "best"
@@ -48,3 +51,8 @@ BestFails rules knowns old new = FilesFail (BestPrefix rules knowns old new) kno
 -- standard input was not read: what standard input had and has left, and the output before and after.
 abbrev pub BestRan : (bytes_of : List ℕ → Option (List ℕ)) → (Unread : Type 0) → BestArguments → (status : ℕ) → (given left old new : Option (List ℕ)) → Type 0
 BestRan bytes_of Unread arguments status given left old new = FilesRanFrom arguments.files.items bytes_of Unread (BestWrites arguments.ruleset) (BestPrefix arguments.ruleset) status given left old new
+
+-- What it said at status 0, given what is known of the bytes of the file with each name and of standard input, and what holds
+-- if it said nothing: what standard error had before, and has.
+abbrev pub BestSaid : (bytes_of : List ℕ → Option (List ℕ)) → (given : Option (List ℕ)) → (Silent : Type 0) → BestArguments → (old new : Option (List ℕ)) → Type 0
+BestSaid bytes_of given Silent arguments old new = SaysOfFiles (files_note arguments.ruleset arguments.files.items) Silent (knowns_of bytes_of given arguments.files.items) old new

@@ -15,6 +15,8 @@ use Rattle.file_commands.specs.declared.compare.CompareArguments.{CompareArgumen
 use Rattle.command_line.specs.declared.tool_fault.ToolFault.{ToolFault}
 use Rattle.command_line.specs.declared.tool_fault.ToolFault.TheVariants.{Read, Write, Unreadable, Memory, Socket, Transfer}
 use Rattle.command_line.specs.Arguments.{HasFlag}
+use Rattle.show_commands.specs.Saying.{Says}
+use Rattle.file_commands.specs.Notes.{sets_note}
 use Rattle.command_line.specs.Faults.{status_of}
 use Rattle.command_line.specs.Inputs.{IsUnreadable}
 
@@ -114,3 +116,18 @@ pub record ComparesInputs (better : Bool) (mine theirs : Option (List ℕ)) (sta
 -- What it did, by the exit status, given what is known of the bytes of the file with each name.
 abbrev pub CompareRan : (bytes_of : List ℕ → Option (List ℕ)) → CompareArguments → (status : ℕ) → (old new : Option (List ℕ)) → Type 0
 CompareRan bytes_of arguments status old new = ComparesInputs arguments.better (bytes_of (string_bytes arguments.mine)) (bytes_of (string_bytes arguments.theirs)) status old new
+
+-- ---- what it said
+
+-- what is said of two files
+abbrev pub compare_note : CompareArguments → (mine theirs : File) → List ℕ
+compare_note arguments mine theirs = sets_note (string_bytes arguments.mine) mine (string_bytes arguments.theirs) theirs
+
+-- that was said of the files in two inputs
+abbrev pub SaysOfTwo : CompareArguments → (Silent : Type 0) → (mine theirs old new : Option (List ℕ)) → Type 0
+SaysOfTwo arguments Silent mine theirs old new = (m : File) × (t : File) × AreTexts mine theirs m t × Says (compare_note arguments m t) Silent old new
+
+-- What it said at status 0, given what is known of the bytes of the file with each name, and what holds if it said nothing:
+-- what standard error had before, and has.
+abbrev pub CompareSaid : (bytes_of : List ℕ → Option (List ℕ)) → (Silent : Type 0) → CompareArguments → (old new : Option (List ℕ)) → Type 0
+CompareSaid bytes_of Silent arguments old new = SaysOfTwo arguments Silent (bytes_of (string_bytes arguments.mine)) (bytes_of (string_bytes arguments.theirs)) old new

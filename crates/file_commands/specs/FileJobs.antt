@@ -1,16 +1,23 @@
 -- The list of the commands on files: which job each asks for, and what each job did. A command is defined in the file of its
 -- name, here or in `show_commands`.
 use Rattle.std.specs.Prelude.{◌≡◌, ℕ, ◌&&◌, Bool, false, List, Option, option_map, string_bytes}
-use Rattle.clap.specs.Words.{Row, Text}
+use Rattle.clap.specs.Words.{App, Row, Text, with_subcommand}
+use Rattle.command_line.specs.Arguments.{RulesetNames}
+use Rattle.show_commands.specs.ShowJobs.{shows_app}
 use Rattle.show_commands.specs.Output.{WritesTo}
 use Rattle.show_commands.specs.Show.{AsksToShow, ShowRan, show_name}
 use Rattle.show_commands.specs.Pack.{AsksToPack, PackRan, pack_name}
 use Rattle.file_commands.specs.declared.file_job.FileJob.{FileJob}
 use Rattle.file_commands.specs.declared.file_job.FileJob.TheVariants as job
-use Rattle.file_commands.specs.Without.{AsksForWithout, WithoutRan, without_name}
-use Rattle.file_commands.specs.Best.{AsksForBest, BestRan, best_name}
-use Rattle.file_commands.specs.Compare.{AsksToCompare, CompareRan, compare_name}
-use Rattle.file_commands.specs.Page.{AsksForPage, PageRan, page_name}
+use Rattle.file_commands.specs.Without.{AsksForWithout, WithoutRan, WithoutSaid, without_app, without_name}
+use Rattle.file_commands.specs.Best.{AsksForBest, BestRan, BestSaid, best_app, best_name}
+use Rattle.file_commands.specs.Compare.{AsksToCompare, CompareRan, CompareSaid, compare_app, compare_name}
+use Rattle.file_commands.specs.Page.{AsksForPage, PageRan, page_app, page_name}
+
+-- the command line with only the commands on files
+abbrev pub files_app : RulesetNames → App
+files_app names =
+    with_subcommand (with_subcommand (with_subcommand (with_subcommand shows_app without_app.top) (best_app names).top) compare_app.top) page_app.top
 
 -- the command of this name, with what was found for its arguments, asks for the job
 abbrev pub AsksForFileJob : Text × List Row → FileJob → Type 0
@@ -55,3 +62,13 @@ spills to_terminal (job.Page arguments) = false
 abbrev pub FileJobRuns : (to_terminal : Bool) → (bytes_of drafted_of now : List ℕ → Option (List ℕ)) → (Unread Unwritten : Type 0) → FileJob → (status : ℕ) → (had left old new : Option (List ℕ)) → Type 0
 FileJobRuns to_terminal bytes_of drafted_of now Unread Unwritten job status had left old new =
     WritesTo (output_of job) (spills to_terminal job) (λ s o n. FileJobRan bytes_of Unread job s had left o n) Unread Unwritten status drafted_of bytes_of now old new
+
+-- What a job said on standard error at status 0, given what is known of the bytes of the file with each name and of standard
+-- input, and what holds if it said nothing: what standard error had before, and has.
+abbrev pub FileJobSaid : (bytes_of : List ℕ → Option (List ℕ)) → (given : Option (List ℕ)) → (Silent : Type 0) → FileJob → (old new : Option (List ℕ)) → Type 0
+FileJobSaid bytes_of given Silent (job.Show arguments) old new = Silent
+FileJobSaid bytes_of given Silent (job.Pack arguments) old new = Silent
+FileJobSaid bytes_of given Silent (job.Without arguments) old new = WithoutSaid bytes_of given Silent arguments old new
+FileJobSaid bytes_of given Silent (job.Best arguments) old new = BestSaid bytes_of given Silent arguments old new
+FileJobSaid bytes_of given Silent (job.Compare arguments) old new = CompareSaid bytes_of Silent arguments old new
+FileJobSaid bytes_of given Silent (job.Page arguments) old new = Silent

@@ -2,6 +2,7 @@
 -- commands.
 use Rattle.std.specs.Prelude.{ℕ, List, Option}
 use Rattle.tws_file.specs.declared.«ruleset».Ruleset.{Ruleset}
+use Rattle.tws_tables.specs.declared.level.Level.{Level}
 use Rattle.tws_best.specs.Best.{Collected}
 use Rattle.show_commands.specs.SeveralInputs.{AreLessKnown}
 use Rattle.show_commands.specs.Knowing.{files_less, reported_less}
@@ -23,8 +24,8 @@ best_writes_less rules more less old new are wrote = (wrote.0, collects_less rul
 pub best_prefix_less : (rules : Ruleset) (more less : List (Option (List ℕ))) (old new : Option (List ℕ)) → AreLessKnown more less → BestPrefix rules more old new → BestPrefix rules less old new
 best_prefix_less rules more less old new are wrote = (wrote.0, collects_less rules more less wrote.0 are wrote.1, wrote.2)
 
-pub page_writes_less : (more less : List (Option (List ℕ))) (old new : Option (List ℕ)) → AreLessKnown more less → PageWrites more old new → PageWrites less old new
-page_writes_less more less old new are wrote = (wrote.0, files_less more less wrote.0 are wrote.1, wrote.2)
+pub page_writes_less : (title : Option (List ℕ)) (levels : Option (List Level)) (more less : List (Option (List ℕ))) (old new : Option (List ℕ)) → AreLessKnown more less → PageWrites title levels more old new → PageWrites title levels less old new
+page_writes_less title levels more less old new are wrote = (wrote.0, files_less more less wrote.0 are wrote.1, wrote.2)
 
-pub page_prefix_less : (more less : List (Option (List ℕ))) (old new : Option (List ℕ)) → AreLessKnown more less → PagePrefix more old new → PagePrefix less old new
-page_prefix_less more less old new are wrote = (wrote.0, files_less more less wrote.0 are wrote.1, wrote.2)
+pub page_prefix_less : (title : Option (List ℕ)) (levels : Option (List Level)) (more less : List (Option (List ℕ))) (old new : Option (List ℕ)) → AreLessKnown more less → PagePrefix title levels more old new → PagePrefix title levels less old new
+page_prefix_less title levels more less old new are wrote = (wrote.0, files_less more less wrote.0 are wrote.1, wrote.2)

@@ -1,22 +1,26 @@
 //! The command `best`: the best solutions of several files.
 
-ghost use Rattle.std.specs.Prelude.{◌≡◌, ◌≢◌, ◌≤◌, false, map, OnOk, IfOk, IfErr};
+ghost use Rattle.std.specs.Prelude.{◌≡◌, ◌≢◌, ◌≤◌, ℕ, List, Option, false, map, OnOk, IfOk, IfErr};
 ghost use Rattle.std.specs.List.{AllByRecursion};
 ghost use Rattle.std.specs.Io.KnownBytes.{IsAtEnd};
 ghost use Rattle.clap.specs.Matches.{found_of};
 ghost use Rattle.clap.specs.Words.{app_of, rows_of};
 ghost use Rattle.clap.specs.declared.builder.command.Command.TheViews.{out-Command};
 ghost use Rattle.command_line.specs.Arguments.{Answers};
-ghost use Rattle.file_commands.specs.Best.{AsksForBest, Collects, BestWrites, BestPrefix, BestFails, BestRan, best_app};
+ghost use Rattle.file_commands.specs.Best.{AsksForBest, Collects, BestWrites, BestPrefix, BestFails, BestRan, BestSaid, best_app};
+ghost use Rattle.file_commands.specs.Notes.{files_note};
+ghost use Rattle.file_commands.specs.Steps.{AreNoted};
+ghost use Rattle.show_commands.specs.Saying.{SaysOfFiles};
 ghost use Rattle.show_commands.specs.SeveralInputs.{AreReadOut, CollectFails};
 ghost use Rattle.file_commands.specs.Knowing.{best_prefix_less, best_writes_less};
 
+use crate::notes::{Notes, name_at};
 use clap::{ArgMatches, Command};
 use command_line::{
     Source, ToolFault, new_command, ruleset_argument, ruleset_given, sources_given, string_given,
 };
 use show_commands::{
-    SeveralInputsCommand, files_argument, output_argument, read_input, run_several_inputs,
+    SeveralInputsCommand, files_argument, output_argument, read_input, run_several_inputs, say,
 };
 use std::alloc::{AllocError, Global};
 use std::io::{Read, Write};
@@ -47,7 +51,7 @@ const HELP: &str =
 /// # Errors
 ///
 /// Out of memory.
-pub fn command<'a>(alloc: Global, names: &'a [&'a str]) -> Result<Command<'a>, AllocError>
+pub(crate) fn command<'a>(alloc: Global, names: &'a [&'a str]) -> Result<Command<'a>, AllocError>
     ensures app { IfOk result (λ command. app_of command ≡ best_app names.entry) }
     ensures local { IfOk result (λ command. (out-Command command).has_globals ≡ false) }
 {
@@ -62,7 +66,7 @@ pub fn command<'a>(alloc: Global, names: &'a [&'a str]) -> Result<Command<'a>, A
 /// # Errors
 ///
 /// Out of memory.
-pub fn asked(alloc: Global, words: &ArgMatches) -> Result<Option<BestArguments>, AllocError>
+pub(crate) fn asked(alloc: Global, words: &ArgMatches) -> Result<Option<BestArguments>, AllocError>
     ensures { IfOk result (Answers (AsksForBest (rows_of (found_of words.now)))) }
 {
     let Some(ruleset) = ruleset_given(words) else {
@@ -77,39 +81,66 @@ pub fn asked(alloc: Global, words: &ArgMatches) -> Result<Option<BestArguments>,
     }))
 }
 
-// The collection over all inputs, each of which is read to its end.
+// The collection over all inputs, each of which is read to its end. What is said of the files is noted.
 fn collect<R: Read>(
     alloc: Global,
     ruleset: Ruleset,
+    sources: &[Source],
     files: &mut [R],
+    notes: &mut Notes,
 ) -> Result<Collection, ToolFault>
     ensures end { OnOk result (AllByRecursion (λ file. IsAtEnd (R.remaining file)) files.new) }
     ensures collected { IfOk result (Collects «ruleset» (map (λ file. R.remaining file) files.old)) }
+    ensures noted { OnOk result (AreNoted «ruleset» sources.now notes.old notes.new (map (λ file. R.remaining file) files.old)) }
     ensures fails { IfErr result (CollectFails (map (λ file. R.remaining file) files.old)) }
     ensures unreadable { IfErr result (AreReadOut (λ file. R.remaining file) files.new) }
 {
     let mut collection = Collection::new(alloc, ruleset);
     for index in 0..files.len() {
         let file = read_input(alloc, index, &mut files[index])?;
+        notes.take(alloc, ruleset, name_at(sources, index), &file)?;
         collection.merge(&file)?;
     }
     Ok(collection)
 }
 
+// The collection over all inputs, once there was said what is to be said of them.
+fn collect_saying<R: Read, E: Write>(
+    alloc: Global,
+    ruleset: Ruleset,
+    sources: &[Source],
+    files: &mut [R],
+    errors: &mut E,
+) -> Result<Collection, ToolFault>
+    ensures end { OnOk result (AllByRecursion (λ file. IsAtEnd (R.remaining file)) files.new) }
+    ensures collected { IfOk result (Collects «ruleset» (map (λ file. R.remaining file) files.old)) }
+    ensures said { OnOk result (SaysOfFiles (files_note «ruleset» sources.now) (errors.new ≡ errors.old) (map (λ file. R.remaining file) files.old) (E.contents errors.old) (E.contents errors.new)) }
+    ensures fails { IfErr result (λ e. (unwritten : Option (List ℕ)) → BestFails «ruleset» (map (λ file. R.remaining file) files.old) unwritten unwritten e) }
+    ensures unreadable { IfErr result (AreReadOut (λ file. R.remaining file) files.new) }
+{
+    let mut notes = Notes::new(alloc);
+    let collection = collect(alloc, ruleset, sources, files, &mut notes)?;
+    say(notes.text.as_str(), errors)?;
+    Ok(collection)
+}
+
 /// Reads solution files to their ends, in order, and writes the collection of the best solutions in those of this
-/// ruleset. The collection's memory is not freed, but left to the end of the process.
+/// ruleset. First `errors` is told, by the names of `sources`, which file is of the other ruleset, and which names another
+/// level set than the first of this ruleset that names one. The collection's memory is not freed, but left to the end of the process.
 ///
 /// # Errors
 ///
 /// The first input that fails decides. `Read` if it fails or does not end within `INPUT_READS` reads, and `Unreadable`
-/// with its number, counted from 0, and the fault of its bytes: then nothing was written. `Write` if the writer fails:
+/// with its number, counted from 0, and the fault of its bytes: then nothing was written. `Write` if a writer fails:
 /// then a proper prefix of the collection's text was written. `Memory` if an allocation was refused: then nothing was
 /// written.
-pub fn run_best<R: Read, W: Write>(
+pub fn run_best<R: Read, W: Write, E: Write>(
     alloc: Global,
     ruleset: Ruleset,
+    sources: &[Source],
     files: &mut [R],
     out: &mut W,
+    errors: &mut E,
 ) -> Result<(), ToolFault>
     ensures end { OnOk result (AllByRecursion (λ file. IsAtEnd (R.remaining file)) files.new) }
     ensures collected { OnOk result (BestWrites «ruleset» (map (λ file. R.remaining file) files.old) (W.contents out.old) (W.contents out.new)) }
@@ -117,8 +148,9 @@ pub fn run_best<R: Read, W: Write>(
     ensures unreadable { IfErr result (AreReadOut (λ file. R.remaining file) files.new) }
     // Holds also for a writer without ghost contents.
     ensures unwritten { IfErr result (λ e. e ≢ ToolFault.Write → out.new ≡ out.old) }
+    ensures said { OnOk result (SaysOfFiles (files_note «ruleset» sources.now) (errors.new ≡ errors.old) (map (λ file. R.remaining file) files.old) (E.contents errors.old) (E.contents errors.new)) }
 {
-    let collection = collect(alloc, ruleset, files)?;
+    let collection = collect_saying(alloc, ruleset, sources, files, errors)?;
     let written = collection.write_text(out);
     // To free two blocks for each of a million bodies takes a fifth of the time, and the process ends next.
     mem::forget(collection);
@@ -131,13 +163,16 @@ impl SeveralInputsCommand for BestArguments {
 
     ghost prefix = { λ arguments. BestPrefix arguments.«ruleset» };
 
-    fn run_over<R: Read, W: Write>(
+    ghost says = { λ arguments. files_note arguments.«ruleset» arguments.files.items };
+
+    fn run_over<R: Read, W: Write, E: Write>(
         &self,
         alloc: Global,
         inputs: &mut [R],
         out: &mut W,
+        errors: &mut E,
     ) -> Result<(), ToolFault> {
-        run_best(alloc, self.ruleset, inputs, out)
+        run_best(alloc, self.ruleset, &self.files, inputs, out, errors)
     }
 
     ghost writes_less = { λ arguments. best_writes_less arguments.«ruleset» };
@@ -146,11 +181,11 @@ impl SeveralInputsCommand for BestArguments {
 }
 
 /// Runs `best` over its files and this output, whatever its arguments say of one, and returns the exit status: 0 if all was done, 2 if reading, writing or memory
-/// failed, 3 for an input that is not a solution file. A fault goes to `errors`.
+/// failed, 3 for an input that is not a solution file. A fault goes to `errors`, and before it, or at status 0 alone, what `run_best` says.
 ///
 /// Files are opened by their names in `system`, all of them before one is read. Standard input, if it is among the
 /// inputs, is read whole before any other, and is the same each time that it is named.
-pub fn run<S: FileSystem, R: Read, W: Write, E: Write>(
+pub(crate) fn run<S: FileSystem, R: Read, W: Write, E: Write>(
     system: &S,
     alloc: Global,
     arguments: &BestArguments,
@@ -163,7 +198,7 @@ pub fn run<S: FileSystem, R: Read, W: Write, E: Write>(
     ensures usage { result ≢ 1 }
     ensures few { result ≤ 3 }
     ensures unreadable { result ≡ 3 → out.new ≡ out.old }
-    ensures silent { result ≡ 0 → errors.new ≡ errors.old }
+    ensures said { result ≡ 0 → BestSaid (S.bytes_of system.now) (R.remaining input.old) (errors.new ≡ errors.old) arguments.now (E.contents errors.old) (E.contents errors.new) }
 {
     let sources = &arguments.files;
     run_several_inputs(arguments, system, alloc, sources, input, out, errors)

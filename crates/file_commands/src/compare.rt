@@ -6,13 +6,16 @@ ghost use Rattle.clap.specs.Matches.{found_of};
 ghost use Rattle.clap.specs.Words.{app_of, rows_of, rule_of};
 ghost use Rattle.clap.specs.declared.builder.command.Command.TheViews.{out-Command};
 ghost use Rattle.command_line.specs.Arguments.{Answers};
-ghost use Rattle.file_commands.specs.Compare.{AsksToCompare, CompareFails, CompareRan, Compares, ComparesFiles, FilesFail, better_rule, compare_app, compare_status, compared_app, mine_rule, theirs_rule};
+ghost use Rattle.file_commands.specs.Compare.{AsksToCompare, CompareFails, CompareRan, CompareSaid, Compares, ComparesFiles, FilesFail, SaysOfTwo, better_rule, compare_app, compare_note, compare_status, compared_app, mine_rule, theirs_rule};
 ghost use Rattle.command_line.specs.Faults.{status_of};
+ghost use Rattle.show_commands.specs.Saying.{Says};
+ghost use Rattle.file_commands.specs.Notes.{IsSayFault};
 
+use crate::notes::sets_note;
 use byte_output::put;
 use clap::{Arg, ArgAction, ArgMatches, Command};
 use command_line::{DONE, ToolFault, USAGE, new_command, report, report_file, string_given};
-use show_commands::{output_argument, read_input};
+use show_commands::{output_argument, read_input, say};
 use std::alloc::{AllocError, Global};
 use std::io::{Read, Write};
 use std::slice;
@@ -85,7 +88,7 @@ fn compared_command<'a>(alloc: Global) -> Result<Command<'a>, AllocError>
 /// # Errors
 ///
 /// Out of memory.
-pub fn command<'a>(alloc: Global) -> Result<Command<'a>, AllocError>
+pub(crate) fn command<'a>(alloc: Global) -> Result<Command<'a>, AllocError>
     ensures app { IfOk result (λ command. app_of command ≡ compare_app) }
     ensures local { IfOk result (λ command. (out-Command command).has_globals ≡ false) }
 {
@@ -97,7 +100,10 @@ pub fn command<'a>(alloc: Global) -> Result<Command<'a>, AllocError>
 /// # Errors
 ///
 /// Out of memory.
-pub fn asked(alloc: Global, words: &ArgMatches) -> Result<Option<CompareArguments>, AllocError>
+pub(crate) fn asked(
+    alloc: Global,
+    words: &ArgMatches,
+) -> Result<Option<CompareArguments>, AllocError>
     ensures { IfOk result (Answers (AsksToCompare (rows_of (found_of words.now)))) }
 {
     let Some(mine) = string_given(alloc, words, "mine")? else {
@@ -181,31 +187,54 @@ fn write_compared<W: Write>(
     }
 }
 
+// Says whether two files of one ruleset name different level sets.
+fn say_sets<E: Write>(
+    alloc: Global,
+    arguments: &CompareArguments,
+    mine: &TwsFile,
+    theirs: &TwsFile,
+    errors: &mut E,
+) -> Result<(), ToolFault>
+    ensures said { OnOk result (Says (compare_note arguments.now mine.now theirs.now) (errors.new ≡ errors.old) (E.contents errors.old) (E.contents errors.new)) }
+    ensures fails { IfErr result IsSayFault }
+{
+    let (mine_name, theirs_name) = (arguments.mine.as_str(), arguments.theirs.as_str());
+    let note = sets_note(alloc, mine_name, mine, theirs_name, theirs)?;
+    say(note.as_str(), errors)
+}
+
 /// Reads two solution files to their ends, mine first, and writes their comparison, or the collection of what is better
-/// in mine. Returns whether they are of one ruleset; if not, nothing was written.
+/// in mine. Returns whether they are of one ruleset; if not, nothing was written. If they are, but name different level sets,
+/// that is said on `errors` first, by the names of the arguments.
 ///
 /// # Errors
 ///
 /// `Read` if a reader fails or does not end within `INPUT_READS` reads, `Unreadable` with the number of the first
 /// input that is not a solution file, 0 for mine and 1 for theirs, and its fault, and `Memory` if an allocation was
-/// refused: then nothing was written. `Write` if the writer fails: then a proper prefix of the text was written.
-pub fn run_compare<R: Read, W: Write>(
+/// refused: then nothing was written. `Write` if a writer fails: then a proper prefix of the text was written.
+pub fn run_compare<R: Read, W: Write, E: Write>(
     alloc: Global,
-    is_better: bool,
+    arguments: &CompareArguments,
     mine: &mut R,
     theirs: &mut R,
     out: &mut W,
+    errors: &mut E,
 ) -> Result<bool, ToolFault>
     ensures end { OnOk result (IsAtEnd (R.remaining mine.new) × IsAtEnd (R.remaining theirs.new)) }
-    ensures compared { IfOk result (Compares is_better (R.remaining mine.old) (R.remaining theirs.old) (W.contents out.old) (W.contents out.new)) }
-    ensures fails { IfErr result (CompareFails is_better (R.remaining mine.old) (R.remaining theirs.old) (W.contents out.old) (W.contents out.new)) }
+    ensures compared { IfOk result (Compares arguments.now.better (R.remaining mine.old) (R.remaining theirs.old) (W.contents out.old) (W.contents out.new)) }
+    ensures fails { IfErr result (CompareFails arguments.now.better (R.remaining mine.old) (R.remaining theirs.old) (W.contents out.old) (W.contents out.new)) }
     // Hold also for a writer without ghost contents.
     ensures unwritten { IfErr result (λ e. e ≢ ToolFault.Write → out.new ≡ out.old) }
     ensures other { result ≡ Ok false → out.new ≡ out.old }
+    ensures said { IfOk result (λ same. same ≡ true → SaysOfTwo arguments.now (errors.new ≡ errors.old) (R.remaining mine.old) (R.remaining theirs.old) (E.contents errors.old) (E.contents errors.new)) }
 {
     let mine = read_input(alloc, 0, mine)?;
     let theirs = read_input(alloc, 1, theirs)?;
-    write_compared(alloc, is_better, mine, &theirs, out)
+    if mine.ruleset != theirs.ruleset {
+        return Ok(false);
+    }
+    say_sets(alloc, arguments, &mine, &theirs, errors)?;
+    write_compared(alloc, arguments.better, mine, &theirs, out)
 }
 
 // Reports why the files were not compared, and returns the status. The input at fault is one of the two.
@@ -243,8 +272,8 @@ fn end<E: Write>(done: Result<bool, ToolFault>, arguments: &CompareArguments, er
 
 /// Runs `compare` over the files of its names and this output, whatever its arguments say of one, and returns the exit status: 0 if all was done, 1 if the files are of
 /// different rulesets, 2 if reading, writing or memory failed, 3 for a file that is not a solution file. A fault goes
-/// to `errors`. Both files are opened in `system` before one is read.
-pub fn run<S: FileSystem, W: Write, E: Write>(
+/// to `errors`, and before it, or at status 0 alone, what `run_compare` says. Both files are opened in `system` before one is read.
+pub(crate) fn run<S: FileSystem, W: Write, E: Write>(
     system: &S,
     alloc: Global,
     arguments: &CompareArguments,
@@ -256,7 +285,7 @@ pub fn run<S: FileSystem, W: Write, E: Write>(
     ensures usage { result ≡ 1 → out.new ≡ out.old }
     ensures few { result ≤ 3 }
     ensures unreadable { result ≡ 3 → out.new ≡ out.old }
-    ensures silent { result ≡ 0 → errors.new ≡ errors.old }
+    ensures said { result ≡ 0 → CompareSaid (S.bytes_of system.now) (errors.new ≡ errors.old) arguments.now (E.contents errors.old) (E.contents errors.new) }
 {
     let mut mine = match system.open(arguments.mine.as_str()) {
         Ok(file) => file,
@@ -268,6 +297,6 @@ pub fn run<S: FileSystem, W: Write, E: Write>(
             return report_file(ToolFault::Read, arguments.theirs.as_str(), &cause, errors);
         }
     };
-    let done = run_compare(alloc, arguments.better, &mut mine, &mut theirs, out);
+    let done = run_compare(alloc, arguments, &mut mine, &mut theirs, out, errors);
     end(done, arguments, errors)
 }

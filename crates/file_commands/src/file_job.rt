@@ -2,18 +2,21 @@
 
 ghost use Rattle.std.specs.Prelude.{◌≡◌, ◌≢◌, ◌≤◌, ℕ, List, [], Some, None, IfOk, IfSome, IfNone};
 ghost use Rattle.clap.specs.Matches.{found_of};
-ghost use Rattle.clap.specs.Words.{rows_of};
+ghost use Rattle.clap.specs.Words.{app_of, rows_of};
 ghost use Rattle.command_line.specs.Arguments.{Answers};
 ghost use Rattle.show_commands.specs.Output.{Saves};
-ghost use Rattle.file_commands.specs.FileJobs.{AsksForFileJob, FileJobRan, FileJobRuns, output_of, spills};
+ghost use Rattle.file_commands.specs.FileJobs.{AsksForFileJob, FileJobRan, FileJobRuns, FileJobSaid, files_app, output_of, spills};
 
 use crate::best::BestArguments;
 use crate::compare::CompareArguments;
 use crate::page::PageArguments;
 use crate::without::WithoutArguments;
 use crate::{best, compare, page, without};
-use clap::ArgMatches;
-use show_commands::{PackArguments, ShowArguments, output_name, pack, refuse_terminal, save, show};
+use clap::{ArgMatches, Command};
+use command_line::add_command;
+use show_commands::{
+    PackArguments, ShowArguments, output_name, pack, refuse_terminal, save, show, show_program,
+};
 use std::alloc::{AllocError, Global};
 use std::io::{Read, Write};
 use system_files::FileSystem;
@@ -66,6 +69,20 @@ impl FileJob {
     }
 }
 
+/// The command line of the program with only the commands on files, in the order of the help, and these names of the rulesets.
+///
+/// # Errors
+///
+/// Out of memory.
+pub fn file_program<'a>(alloc: Global, names: &'a [&'a str]) -> Result<Command<'a>, AllocError>
+    ensures { IfOk result (λ command. app_of command ≡ files_app names.entry) }
+{
+    let program = add_command(show_program(alloc), without::command(alloc));
+    let program = add_command(program, best::command(alloc, names));
+    let program = add_command(program, compare::command(alloc));
+    add_command(program, page::command(alloc))
+}
+
 /// What the arguments of the command on files of this name ask for; `None` if they ask for nothing, or it is no such command.
 ///
 /// # Errors
@@ -102,7 +119,7 @@ fn write_file_job<S: FileSystem, R: Read, W: Write, E: Write>(
     ensures usage { result ≡ 1 → (input.new ≡ input.old) × (out.new ≡ out.old) }
     ensures few { result ≤ 3 }
     ensures unreadable { result ≡ 3 → out.new ≡ out.old }
-    ensures silent { result ≡ 0 → errors.new ≡ errors.old }
+    ensures said { result ≡ 0 → FileJobSaid (S.bytes_of system.now) (R.remaining input.old) (errors.new ≡ errors.old) job.now (E.contents errors.old) (E.contents errors.new) }
 {
     match job {
         FileJob::Show(arguments) => show::run(system, alloc, arguments, input, out, errors),
@@ -126,7 +143,7 @@ fn run_into_file<S: FileSystem, R: Read, E: Write>(
     ensures ran { (made : ℕ) × (text : List ℕ) × FileJobRan (S.bytes_of system.old) (input.new ≡ input.old) job.now made (R.remaining input.old) (R.remaining input.new) (Some []) (Some text) × Saves name.now text made result (S.drafted_of system.old name.now) (S.bytes_of system.old) (S.bytes_of system.new) }
     ensures usage { result ≡ 1 → input.new ≡ input.old }
     ensures few { result ≤ 3 }
-    ensures silent { result ≡ 0 → errors.new ≡ errors.old }
+    ensures said { result ≡ 0 → FileJobSaid (S.bytes_of system.old) (R.remaining input.old) (errors.new ≡ errors.old) job.now (E.contents errors.old) (E.contents errors.new) }
 {
     let mut text = Vec::new(alloc);
     let made = write_file_job(system, alloc, job, input, &mut text, errors);
@@ -135,7 +152,7 @@ fn run_into_file<S: FileSystem, R: Read, E: Write>(
 
 /// Does a job, and returns the exit status: 0 if all was done, 1 for a usage error, such as a solution file that would be
 /// written to a terminal, as `out` is if `to_terminal` is set, 2 if reading, writing or memory failed, 3 for an input that is
-/// not a solution file. A fault goes to `errors`. A file is opened, or replaced, by its name in `system`.
+/// not a solution file. A fault goes to `errors`, and before it, or at status 0 alone, what the command says. A file is opened, or replaced, by its name in `system`.
 pub fn run_file_job<S: FileSystem, R: Read, W: Write, E: Write>(
     system: &mut S,
     alloc: Global,
@@ -150,7 +167,7 @@ pub fn run_file_job<S: FileSystem, R: Read, W: Write, E: Write>(
     ensures usage { result ≡ 1 → (input.new ≡ input.old) × (out.new ≡ out.old) }
     ensures few { result ≤ 3 }
     ensures unreadable { result ≡ 3 → out.new ≡ out.old }
-    ensures silent { result ≡ 0 → errors.new ≡ errors.old }
+    ensures said { result ≡ 0 → FileJobSaid (S.bytes_of system.old) (R.remaining input.old) (errors.new ≡ errors.old) job.now (E.contents errors.old) (E.contents errors.new) }
 {
     if let Some(name) = job.output() {
         return run_into_file(system, alloc, job, name, input, errors);

@@ -7,14 +7,17 @@
 //! `run_several_inputs`, and `without`, as the commands of `show_commands` over one file, by `run_one_input`.
 #![tactic(auto)]
 
-pub mod best;
-pub mod compare;
+mod best;
+mod compare;
 mod file_job;
-pub mod page;
-pub mod without;
+mod level_file;
+mod notes;
+mod page;
+mod without;
 
 pub use best::{BestArguments, run_best};
 pub use compare::{CompareArguments, run_compare};
-pub use file_job::{FileJob, file_job_of, run_file_job};
+pub use file_job::{FileJob, file_job_of, file_program, run_file_job};
+pub use notes::ruleset_line;
 pub use page::{PageArguments, run_page};
 pub use without::{WithoutArguments, run_without};

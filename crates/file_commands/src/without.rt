@@ -1,14 +1,16 @@
 //! The command `without`: a solution file without the solutions of a level.
 
-ghost use Rattle.std.specs.Prelude.{◌≡◌, ◌≢◌, ◌≤◌, ℕ, false, OnOk, IfOk, IfErr, IfSome, IfNone};
+ghost use Rattle.std.specs.Prelude.{◌≡◌, ◌≢◌, ◌≤◌, ℕ, false, OnOk, IfOk, IfErr, IfSome, IfNone, length, string_bytes};
 ghost use Rattle.std.specs.Io.KnownBytes.{IsAtEnd};
 ghost use Rattle.clap.specs.Matches.{found_of};
 ghost use Rattle.clap.specs.Words.{app_of, first_of, rows_of, rule_of};
 ghost use Rattle.clap.specs.declared.builder.command.Command.TheViews.{out-Command};
 ghost use Rattle.tws_compare.specs.Without.{text_without};
 ghost use Rattle.command_line.specs.Arguments.{Answers};
-ghost use Rattle.file_commands.specs.Without.{AsksForWithout, IsLevel, IsLevelNumber, WithoutRan, level_rule, password_rule, removing_app, without_app};
+ghost use Rattle.file_commands.specs.Notes.{IsSayFault, unless};
+ghost use Rattle.file_commands.specs.Without.{AsksForWithout, IsLevel, IsLevelNumber, WithoutRan, WithoutSaid, level_rule, no_solution, password_rule, removal_note, removing_app, without_app};
 ghost use Rattle.command_line.specs.Faults.{IsReadOut};
+ghost use Rattle.show_commands.specs.Saying.{Says, SaysOf};
 ghost use Rattle.show_commands.specs.Written.{Writes, WriteFails};
 
 use clap::builder::ValueParser;
@@ -16,12 +18,12 @@ use clap::{Arg, ArgMatches, Command};
 use command_line::{
     Source, ToolFault, USAGE, new_command, source_argument, source_given, string_given, text_given,
 };
-use show_commands::{OneInputCommand, output_argument, read_input, run_one_input};
+use show_commands::{OneInputCommand, output_argument, read_input, run_one_input, say};
 use std::alloc::{AllocError, Global};
 use std::io::{Read, Write};
 use system_files::FileSystem;
 use tws_compare::{password_shown, without};
-use tws_file::{Key, write_file};
+use tws_file::{Key, TwsFile, write_file};
 
 /// What `without` is asked for.
 #[derive(Drop)]
@@ -79,7 +81,7 @@ fn removing_command<'a>(alloc: Global) -> Result<Command<'a>, AllocError>
 /// # Errors
 ///
 /// Out of memory.
-pub fn command<'a>(alloc: Global) -> Result<Command<'a>, AllocError>
+pub(crate) fn command<'a>(alloc: Global) -> Result<Command<'a>, AllocError>
     ensures app { IfOk result (λ command. app_of command ≡ without_app) }
     ensures local { IfOk result (λ command. (out-Command command).has_globals ≡ false) }
 {
@@ -110,7 +112,10 @@ fn level_given(words: &ArgMatches) -> Option<u16>
 /// # Errors
 ///
 /// Out of memory.
-pub fn asked(alloc: Global, words: &ArgMatches) -> Result<Option<WithoutArguments>, AllocError>
+pub(crate) fn asked(
+    alloc: Global,
+    words: &ArgMatches,
+) -> Result<Option<WithoutArguments>, AllocError>
     ensures { IfOk result (Answers (AsksForWithout (rows_of (found_of words.now)))) }
 {
     let Some(level) = level_given(words) else {
@@ -129,18 +134,50 @@ pub fn asked(alloc: Global, words: &ArgMatches) -> Result<Option<WithoutArgument
     }))
 }
 
-/// Reads a solution file to its end, and writes it without the solutions of a level.
+fn record_count(file: &TwsFile) -> usize
+    ensures { result ≡ length file.now.records }
+{
+    file.records.len()
+}
+
+// The line for a file that has no solution of a level.
+fn no_solution(alloc: Global, key: Key) -> Result<String, AllocError>
+    ensures { IfOk result (λ text. string_bytes text ≡ no_solution key) }
+{
+    format!(in alloc; "tws: no solution of level {key}\n")
+}
+
+// Says that a file has no solution of a level, unless one was found.
+fn say_removal<E: Write>(
+    alloc: Global,
+    key: Key,
+    is_found: bool,
+    errors: &mut E,
+) -> Result<(), ToolFault>
+    ensures said { OnOk result (Says (unless is_found (no_solution key)) (errors.new ≡ errors.old) (E.contents errors.old) (E.contents errors.new)) }
+    ensures fails { IfErr result IsSayFault }
+{
+    if is_found {
+        return Ok(());
+    }
+    let line = no_solution(alloc, key)?;
+    say(line.as_str(), errors)
+}
+
+/// Reads a solution file to its end, and writes it without the solutions of a level; if it has none, that is said on `errors`
+/// first.
 ///
 /// # Errors
 ///
 /// `Read` if the reader fails or does not end within `INPUT_READS` reads, and `Unreadable` with index 0 and the fault
-/// of the bytes: then nothing was written. `Write` if the writer fails: then a proper prefix of the file was written.
+/// of the bytes: then nothing was written. `Write` if a writer fails: then a proper prefix of the file was written.
 /// `Memory` if an allocation was refused: then nothing was written.
-pub fn run_without<R: Read, W: Write>(
+pub fn run_without<R: Read, W: Write, E: Write>(
     alloc: Global,
     key: Key,
     input: &mut R,
     out: &mut W,
+    errors: &mut E,
 ) -> Result<(), ToolFault>
     ensures end { OnOk result (IsAtEnd (R.remaining input.new)) }
     ensures unreadable { IfErr result (IsReadOut (R.remaining input.new)) }
@@ -148,9 +185,12 @@ pub fn run_without<R: Read, W: Write>(
     ensures fails { IfErr result (WriteFails (text_without key) (R.remaining input.old) (W.contents out.old) (W.contents out.new)) }
     // Holds also for a writer without ghost contents.
     ensures unwritten { IfErr result (λ e. e ≢ ToolFault.Write → out.new ≡ out.old) }
+    ensures said { OnOk result (SaysOf (removal_note key) (errors.new ≡ errors.old) (R.remaining input.old) (E.contents errors.old) (E.contents errors.new)) }
 {
     let file = read_input(alloc, 0, input)?;
+    let count = record_count(&file);
     let left = without(key, file);
+    say_removal(alloc, key, record_count(&left) < count, errors)?;
     write_file(&left, out)?;
     Ok(())
 }
@@ -165,13 +205,16 @@ struct Removal {
 impl OneInputCommand for Removal {
     ghost text = { λ removal. text_without removal.key };
 
-    fn run_over<R: Read, W: Write>(
+    ghost says = { λ removal. removal_note removal.key };
+
+    fn run_over<R: Read, W: Write, E: Write>(
         &self,
         alloc: Global,
         input: &mut R,
         out: &mut W,
+        errors: &mut E,
     ) -> Result<(), ToolFault> {
-        run_without(alloc, self.key, input, out)
+        run_without(alloc, self.key, input, out, errors)
     }
 }
 
@@ -185,7 +228,7 @@ fn bad_password<E: Write>(errors: &mut E) -> u8
 
 /// Runs `without` over this output, whatever its arguments say of one, and returns the exit status: 1 if what was typed is not a password, and otherwise that of
 /// `run_one_input`.
-pub fn run<S: FileSystem, R: Read, W: Write, E: Write>(
+pub(crate) fn run<S: FileSystem, R: Read, W: Write, E: Write>(
     system: &S,
     alloc: Global,
     arguments: &WithoutArguments,
@@ -198,7 +241,7 @@ pub fn run<S: FileSystem, R: Read, W: Write, E: Write>(
     ensures usage { result ≡ 1 → (input.new ≡ input.old) × (out.new ≡ out.old) }
     ensures few { result ≤ 3 }
     ensures unreadable { result ≡ 3 → out.new ≡ out.old }
-    ensures silent { result ≡ 0 → errors.new ≡ errors.old }
+    ensures said { result ≡ 0 → WithoutSaid (S.bytes_of system.now) (R.remaining input.old) (errors.new ≡ errors.old) arguments.now (E.contents errors.old) (E.contents errors.new) }
 {
     let source = &arguments.source;
     match password_shown(arguments.password.as_str()) {

@@ -1,4 +1,5 @@
 pub mod Statuses
 pub mod Collecting
 pub mod Sources
+pub mod Said
 pub mod Showing

@@ -1,6 +1,7 @@
 pub mod Written
 pub mod Opening
 pub mod SeveralInputs
+pub mod Saying
 pub mod Output
 pub mod Show
 pub mod Knowing

@@ -1,9 +1,11 @@
 //! A command of one input: it reads a solution file, and writes a text of it.
 
-ghost use Rattle.std.specs.Prelude.{◌≡◌, ◌≢◌, ◌≤◌, ℕ, List, OnOk, IfErr};
+ghost use Rattle.std.specs.Prelude.{◌≡◌, ◌≢◌, ◌≤◌, ℕ, List, [], OnOk, IfErr};
 ghost use Rattle.std.specs.Io.KnownBytes.{IsAtEnd};
 ghost use Rattle.tws_file.specs.Text.{File};
 ghost use Rattle.command_line.specs.Faults.{IsBeforeOutput, IsReadOut};
+ghost use Rattle.command_line.specs.Inputs.{known_of};
+ghost use Rattle.show_commands.specs.Saying.{SaysOf};
 ghost use Rattle.show_commands.specs.Written.{RanFrom, Writes, WriteFails};
 
 use command_line::{Source, ToolFault, finish, report_file};
@@ -17,30 +19,35 @@ pub trait OneInputCommand {
     /// The text of a file that it writes.
     ghost text: { Self → File → List ℕ };
 
-    /// Reads a solution file to its end, and writes the text of it.
+    /// What it says of a file on standard error when all is done.
+    ghost says: { Self → File → List ℕ } = { λ _ _. [] };
+
+    /// Reads a solution file to its end, says what there is to say of it, and writes the text of it.
     ///
     /// # Errors
     ///
     /// `Read` if the reader fails or does not end within `INPUT_READS` reads, and `Unreadable` with index 0 and the
-    /// fault of the bytes: then nothing was written. `Write` if the writer fails: then a proper prefix of the text
+    /// fault of the bytes: then nothing was written. `Write` if a writer fails: then a proper prefix of the text
     /// was written. `Memory` if an allocation was refused: then nothing or such a prefix was written.
-    fn run_over<R: Read, W: Write>(
+    fn run_over<R: Read, W: Write, E: Write>(
         &self,
         alloc: Global,
         input: &mut R,
         out: &mut W,
+        errors: &mut E,
     ) -> Result<(), ToolFault>
         ensures end { OnOk result (IsAtEnd (R.remaining input.new)) }
         ensures unreadable { IfErr result (IsReadOut (R.remaining input.new)) }
         ensures written { OnOk result (Writes (text self.now) (R.remaining input.old) (W.contents out.old) (W.contents out.new)) }
         ensures fails { IfErr result (WriteFails (text self.now) (R.remaining input.old) (W.contents out.old) (W.contents out.new)) }
         // Holds also for a writer without ghost contents.
-        ensures unwritten { IfErr result (λ e. IsBeforeOutput e → out.new ≡ out.old) };
+        ensures unwritten { IfErr result (λ e. IsBeforeOutput e → out.new ≡ out.old) }
+        ensures said { OnOk result (SaysOf (says self.now) (errors.new ≡ errors.old) (R.remaining input.old) (E.contents errors.old) (E.contents errors.new)) };
 }
 
 /// Runs a command on the input of this source, and returns the exit status: 0 if all was done, 2 if reading, writing
-/// or memory failed, 3 for an input that is not a solution file. A fault goes to `errors`. A file is opened by its
-/// name in `system`.
+/// or memory failed, 3 for an input that is not a solution file. A fault goes to `errors`, and before it, or at status 0
+/// alone, what the command says. A file is opened by its name in `system`.
 pub fn run_one_input<C: OneInputCommand, S: FileSystem, R: Read, W: Write, E: Write>(
     command: &C,
     system: &S,
@@ -55,13 +62,16 @@ pub fn run_one_input<C: OneInputCommand, S: FileSystem, R: Read, W: Write, E: Wr
     ensures usage { result ≢ 1 }
     ensures few { result ≤ 3 }
     ensures unreadable { result ≡ 3 → out.new ≡ out.old }
-    ensures silent { result ≡ 0 → errors.new ≡ errors.old }
+    ensures said { result ≡ 0 → SaysOf (C.says command.now) (errors.new ≡ errors.old) (known_of (S.bytes_of system.now) (R.remaining input.old) source.now) (E.contents errors.old) (E.contents errors.new) }
 {
     match source {
-        Source::Standard => finish(command.run_over(alloc, input, out), &[], errors),
+        Source::Standard => {
+            let done = command.run_over(alloc, input, out, errors);
+            finish(done, &[], errors)
+        }
         Source::Named(name) => match system.open(name.as_str()) {
             Ok(mut file) => {
-                let done = command.run_over(alloc, &mut file, out);
+                let done = command.run_over(alloc, &mut file, out, errors);
                 finish(done, slice::from_ref(name), errors)
             }
             Err(cause) => report_file(ToolFault::Read, name.as_str(), &cause, errors),

@@ -40,7 +40,7 @@ const HELP: &str =
 /// # Errors
 ///
 /// Out of memory.
-pub fn command<'a>(alloc: Global) -> Result<Command<'a>, AllocError>
+pub(crate) fn command<'a>(alloc: Global) -> Result<Command<'a>, AllocError>
     ensures app { IfOk result (λ command. app_of command ≡ pack_app) }
     ensures local { IfOk result (λ command. (out-Command command).has_globals ≡ false) }
 {
@@ -90,11 +90,12 @@ pub fn run_pack<R: Read, W: Write>(
 impl OneInputCommand for PackArguments {
     ghost text = { λ _. packed_text };
 
-    fn run_over<R: Read, W: Write>(
+    fn run_over<R: Read, W: Write, E: Write>(
         &self,
         alloc: Global,
         input: &mut R,
         out: &mut W,
+        _errors: &mut E,
     ) -> Result<(), ToolFault> {
         run_pack(alloc, input, out)
     }

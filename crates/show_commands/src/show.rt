@@ -89,7 +89,7 @@ fn listing_command<'a>(alloc: Global) -> Result<Command<'a>, AllocError>
 /// # Errors
 ///
 /// Out of memory.
-pub fn command<'a>(alloc: Global) -> Result<Command<'a>, AllocError>
+pub(crate) fn command<'a>(alloc: Global) -> Result<Command<'a>, AllocError>
     ensures app { IfOk result (λ command. app_of command ≡ show_app) }
     ensures local { IfOk result (λ command. (out-Command command).has_globals ≡ false) }
 {
@@ -178,11 +178,12 @@ impl OneInputCommand for ShowArguments {
     ghost text = { shown_text };
 
     #[tactic(auto, unfolding(crate::specs::Show::shown_text))]
-    fn run_over<R: Read, W: Write>(
+    fn run_over<R: Read, W: Write, E: Write>(
         &self,
         alloc: Global,
         input: &mut R,
         out: &mut W,
+        _errors: &mut E,
     ) -> Result<(), ToolFault> {
         if self.csv {
             run_csv(alloc, input, out)

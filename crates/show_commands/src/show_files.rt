@@ -115,11 +115,12 @@ impl SeveralInputsCommand for ShowArguments {
 
     ghost prefix = { ShowPrefix };
 
-    fn run_over<R: Read, W: Write>(
+    fn run_over<R: Read, W: Write, E: Write>(
         &self,
         alloc: Global,
         inputs: &mut [R],
         out: &mut W,
+        _errors: &mut E,
     ) -> Result<(), ToolFault> {
         run_files(alloc, self, inputs, out)
     }

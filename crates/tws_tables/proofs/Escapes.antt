@@ -1,9 +1,10 @@
 -- What stands in the text of a password's cell.
-use Rattle.std.proofs.Common.{◌≡◌, ℕ, suc, ◌<◌, ◌/◌, ◌%◌, ◌==◌, Bool, true, false, List, [], ◌∷◌, ◌++◌, refl, sym, subst, inl, inr, ◌∙◌, arith, append_assoc, append-nil}
+use lib.Utf8.{encode, next}
+use Rattle.std.proofs.Common.{◌≡◌, ℕ, suc, ◌+◌, ◌<◌, ◌≤◌, ◌/◌, ◌%◌, ◌==◌, ◌||◌, cond, ltb, Bool, true, false, List, [], ◌∷◌, ◌++◌, refl, sym, subst, inl, inr, ◌∙◌, arith, append_assoc, append-nil}
 use Rattle.std.specs.Prelude.{Contains, codes}
 use Rattle.std.specs.List.{list_all, list_any}
 use Rattle.std.specs.Fmt.{digit_glyph}
-use Rattle.std.proofs.lemmas.Bool.{agree_below, eqb-false, eqb-true, agree_below_at, and_parts, cond_both, or_from, or_parts}
+use Rattle.std.proofs.lemmas.Bool.{agree_below, eqb-false, ne_eqb, eqb-true, agree_below_at, and_parts, cond_both, or_from, or_parts}
 use Rattle.std.proofs.lemmas.Bool.Decides.{nat_tests}
 use Rattle.std.proofs.lemmas.List.Folds.{list_any-append}
 use Rattle.std.proofs.lemmas.Str.{encode_ascii}
@@ -53,8 +54,45 @@ after_reference name more known none all (f ∷ front) rest is = let tail : name
 -- ---- characters
 
 -- a printable character is ASCII
-printable_small : (c : ℕ) → is_printable c ≡ true → c < 128
+pub printable_small : (c : ℕ) → is_printable c ≡ true → c < 128
 printable_small c e = grind (arith, nat_tests)
+
+-- ---- the bytes of a character
+
+module _ (p : ℕ → Bool) (large : (b : ℕ) → 128 ≤ b → p b ≡ false) where
+  byte : (b : ℕ) (more : List ℕ) → 128 ≤ b → list_any p more ≡ false → list_any p (b ∷ more) ≡ false
+  byte b more above none = or_from (p b) (list_any p more) (large b above) none
+
+  -- what neither it nor a byte that is not ASCII is, none of its bytes is
+  encoded : (c : ℕ) → p c ≡ false → list_any p (encode c) ≡ false
+  unfolding encode
+  encoded c none =
+      let P : List ℕ → Type 0 = λ bytes. list_any p bytes ≡ false in
+      let last : List ℕ = next c ∷ [] in
+      let two : List ℕ = next (c / 64) ∷ last in
+      let last-none : list_any p last ≡ false = byte (next c) [] (omega arith) refl in
+      let two-none : list_any p two ≡ false = byte (next (c / 64)) last (omega arith) last-none in
+      cond_both (ltb c 128) (c ∷ []) (cond (ltb c 2048) ((192 + c / 64) ∷ last) (cond (ltb c 65536) ((224 + c / 4096) ∷ two) ((240 + c / 262144) ∷ next (c / 4096) ∷ two))) P
+      (λ small. or_from (p c) false none refl)
+      (λ more. cond_both (ltb c 2048) ((192 + c / 64) ∷ last) (cond (ltb c 65536) ((224 + c / 4096) ∷ two) ((240 + c / 262144) ∷ next (c / 4096) ∷ two)) P
+      (λ small. byte (192 + c / 64) last (omega arith) last-none)
+      (λ more. cond_both (ltb c 65536) ((224 + c / 4096) ∷ two) ((240 + c / 262144) ∷ next (c / 4096) ∷ two) P
+      (λ small. byte (224 + c / 4096) two (omega arith) two-none)
+      (λ more. byte (240 + c / 262144) (next (c / 4096) ∷ two) (omega arith) (byte (next (c / 4096)) two (omega arith) two-none))))
+
+unmarked : (c : ℕ) → (c == 60) ≡ false → (c == 62) ≡ false → (c == 34) ≡ false → (c == 39) ≡ false → is_mark c ≡ false
+unmarked c less greater quote apostrophe =
+    or_from ((c == 60) || (c == 62) || (c == 34)) (c == 39) (or_from ((c == 60) || (c == 62)) (c == 34) (or_from (c == 60) (c == 62) less greater) quote) apostrophe
+
+large_unmarked : (b : ℕ) → 128 ≤ b → is_mark b ≡ false
+large_unmarked b above =
+    unmarked b (ne_eqb b 60 (λ e. absurd (omega arith))) (ne_eqb b 62 (λ e. absurd (omega arith))) (ne_eqb b 34 (λ e. absurd (omega arith)))
+    (ne_eqb b 39 (λ e. absurd (omega arith)))
+
+large_other : (b : ℕ) → 128 ≤ b → is_ampersand b ≡ false
+large_other b above = ne_eqb b 38 (λ e. absurd (omega arith))
+
+-- ---- texts of cells
 
 -- the text has no marks, and wherever it stands each `&` in it begins a reference
 record IsCellText (text : List ℕ) : Type 0 where
@@ -68,27 +106,34 @@ reference_text name known none unmarked = record { unmarked = unmarked; before =
 plain_text : (text : List ℕ) → list_any is_mark text ≡ false → list_any is_ampersand text ≡ false → IsCellText text
 plain_text text unmarked none = record { unmarked = unmarked; before = λ more all. skipped text more none all }
 
-char_text : (c : ℕ) → is_printable c ≡ true → IsCellText (escaped_char c)
-char_text c printable =
+char_text : (c : ℕ) → IsCellText (escaped_char c)
+char_text c =
     cond_both (c == 60) _ _ IsCellText (λ e. reference_text (codes "lt;") (0, omega arith, refl) refl refl)
     (λ less. cond_both (c == 62) _ _ IsCellText (λ e. reference_text (codes "gt;") (1, omega arith, refl) refl refl)
     (λ greater. cond_both (c == 38) _ _ IsCellText (λ e. reference_text (codes "amp;") (2, omega arith, refl) refl refl)
     (λ ampersand. cond_both (c == 34) _ _ IsCellText (λ e. reference_text (codes "quot;") (3, omega arith, refl) refl refl)
     (λ quote. cond_both (c == 39) _ _ IsCellText (λ e. reference_text (codes "#39;") (4, omega arith, refl) refl refl)
-    (λ apostrophe. rw (encode_ascii c (printable_small c printable)) (plain_text (c ∷ []) (rw (less, greater, quote, apostrophe) refl) (rw ampersand refl)))))))
+    (λ apostrophe. plain_text (encode c) (encoded is_mark large_unmarked c (unmarked c less greater quote apostrophe)) (encoded is_ampersand large_other c ampersand))))))
 
--- ---- passwords
-
-chars_text : (chars : List ℕ) → list_all is_printable chars ≡ true → IsCellText (escaped chars)
-chars_text [] all = record { unmarked = refl; before = λ more references. references }
-chars_text (c ∷ chars) all =
-    let parts = and_parts (is_printable c) (list_all is_printable chars) all in
-    let first = char_text c parts.0 in
-    let others = chars_text chars parts.1 in
+-- the text of any characters
+chars_text : (chars : List ℕ) → IsCellText (escaped chars)
+chars_text [] = record { unmarked = refl; before = λ more references. references }
+chars_text (c ∷ chars) =
+    let first = char_text c in
+    let others = chars_text chars in
     record {
       unmarked = list_any-append is_mark (escaped_char c) (escaped chars) ∙ or_from (list_any is_mark (escaped_char c)) (list_any is_mark (escaped chars)) first.unmarked others.unmarked;
       before = λ more references. rw (append_assoc (escaped_char c) (escaped chars) more) (first.before (escaped chars ++ more) (others.before more references));
     }
+
+pub text_unmarked : (chars : List ℕ) → list_any is_mark (escaped chars) ≡ false
+text_unmarked chars = (chars_text chars).unmarked
+
+pub text_references : (chars front rest : List ℕ) → escaped chars ≡ front ++ 38 ∷ rest → BeginsReference (38 ∷ rest)
+unfolding AreReferences
+text_references chars front rest is = (chars_text chars).before [] (no_reference [] refl) front rest (append-nil (escaped chars) ∙ is)
+
+-- ---- passwords
 
 -- what no hexadecimal digit is, no digits are
 pub no_digits : (p : ℕ → Bool) → agree_below (λ d. p (digit_glyph false d)) (λ d. false) 16 ≡ true → (bytes : List ℕ) → IsBytes bytes → list_any p (hex bytes) ≡ false
@@ -103,7 +148,7 @@ no_digits p none (b ∷ bytes) fits =
 -- the text of a password's cell
 password_cell : (password : List ℕ) → IsBytes password → IsCellText (shown_password password)
 password_cell password fits =
-    cond_both (list_all is_printable password) (escaped password) (codes "x" ++ hex password) IsCellText (chars_text password)
+    cond_both (list_all is_printable password) (escaped password) (codes "x" ++ hex password) IsCellText (λ printable. chars_text password)
     (λ other. plain_text (codes "x" ++ hex password) (no_digits is_mark refl password fits) (no_digits is_ampersand refl password fits))
 
 pub no_marks : (password : List ℕ) → IsBytes password → list_any is_mark (shown_password password) ≡ false
@@ -136,7 +181,7 @@ char_shown c printable =
     (λ quote. cond_both (c == 39) _ _ (ShowsAs c) (reference_shown (codes "&#39;") 39 c (inr (inr (inr (inr (refl, refl))))))
     (λ apostrophe. rw (encode_ascii c (printable_small c printable)) (λ more chars shows. by_itself c more chars (eqb-false c 38 ampersand) shows))))))
 
-chars_shown : (chars : List ℕ) → list_all is_printable chars ≡ true → Shows (escaped chars) chars
+pub chars_shown : (chars : List ℕ) → list_all is_printable chars ≡ true → Shows (escaped chars) chars
 unfolding ShowsAs
 chars_shown [] all = no_text
 chars_shown (c ∷ chars) all =

@@ -5,3 +5,5 @@ pub mod Gathered
 pub mod Wholes
 pub mod Escapes
 pub mod Unquoted
+pub mod Named
+pub mod Leveled

@@ -1,5 +1,5 @@
 -- Lines as they are written, part by part.
-use Rattle.std.proofs.Common.{◌≡◌, ℕ, ◌∷◌, List, [], ◌++◌, length, append_assoc, append-nil}
+use Rattle.std.proofs.Common.{◌≡◌, ℕ, ◌∷◌, List, [], ◌++◌, length, append_assoc, append-nil, Option, ◌∙◌}
 use Rattle.std.specs.Prelude.{codes, decimal}
 use Rattle.std.specs.List.{flat_map, join_with_byte}
 use Rattle.tws_moves.specs.Spelling.{moves_in}
@@ -8,9 +8,9 @@ use Rattle.tws_file.specs.Words.{hex, line, password_text, ruleset_name}
 use Rattle.tws_file.specs.Text.{Solution}
 use Rattle.tws_tables.specs.Csv.{csv_fields, csv_line}
 use Rattle.tws_tables.specs.Escaping.{shown_password}
-use Rattle.tws_tables.specs.Page.{page_row, section_head, table_head, title_of}
+use Rattle.tws_tables.specs.Page.{counts, heading, named, page_row, title_of}
 use Rattle.tws_tables.specs.Solved.{seconds_text}
-use Rattle.tws_tables.specs.Steps.{csv_level, csv_lengths, csv_details, level_cells, time_cells, move_cells}
+use Rattle.tws_tables.specs.Steps.{csv_level, csv_lengths, csv_details, opening, closing, level_cells, time_cells, move_cells}
 
 -- ten fields, as three parts
 ten_fields : (old a b c d e f g h i j : List ℕ) →
@@ -26,12 +26,15 @@ six_cells : (old first before after last end a b c d e f : List ℕ) →
     (first ++ flat_map (λ (text : List ℕ). before ++ text ++ after) (a ∷ b ∷ c ∷ d ∷ e ∷ f ∷ []) ++ last ++ end)
 six_cells old first before after last end a b c d e f = simp (append_assoc, append-nil)
 
--- three lines and a head, as two parts
-three_lines : (old section end title-begin title title-end begin solutions middle seconds last head : List ℕ) →
-    old ++ (section ++ end ++ title-begin ++ (title ++ (title-end ++ end))) ++
-    (begin ++ (solutions ++ (middle ++ (seconds ++ (last ++ end))))) ++ head ≡ old ++
-    ((section ++ end) ++ ((title-begin ++ title ++ title-end) ++ end) ++ ((begin ++ solutions ++ middle ++ seconds ++ last) ++ end) ++ head)
-three_lines old section end title-begin title title-end begin solutions middle seconds last head = simp append_assoc
+-- two lines, as three parts
+two_lines : (old section end begin title name last : List ℕ) →
+    old ++ (section ++ end ++ begin ++ title) ++ name ++ (last ++ end) ≡ old ++ ((section ++ end) ++ ((begin ++ title ++ name ++ last) ++ end))
+two_lines old section end begin title name last = simp append_assoc
+
+-- a line, as it is written
+one_line : (old begin first middle second last end : List ℕ) →
+    old ++ (begin ++ (first ++ (middle ++ (second ++ (last ++ end))))) ≡ old ++ ((begin ++ first ++ middle ++ second ++ last) ++ end)
+one_line old begin first middle second last end = simp append_assoc
 
 -- a solution's line of comma-separated values is written
 pub csv_written : (rules : Ruleset) (s : Solution) (old level lengths details : List ℕ) (moves bytes : ℕ) → moves ≡ length (moves_in s.moves) → bytes ≡ length s.moves
@@ -51,12 +54,15 @@ row_written s old level time whole moves bytes moves-is bytes-is level-is time-i
     (six_cells old (codes "<tr>") (codes "<td>") (codes "</td>") (codes "</tr>") (10 ∷ []) (decimal s.key.number) (shown_password s.key.password)
     (seconds_text s.ticks) (decimal s.ticks) (decimal (length (moves_in s.moves))) (decimal (length s.moves)))
 
--- the head of a section is written
-pub head_written : (rules : Ruleset) (solutions ticks : ℕ) (old title counts whole name : List ℕ) → name ≡ title_of rules
-    → title ≡ old ++ (codes "<section>" ++ 10 ∷ codes "<h2>" ++ (name ++ (codes "</h2>" ++ 10 ∷ [])))
-    → counts ≡ title ++ (codes "<p>Solutions: " ++ (decimal solutions ++ (codes ", seconds in all: " ++ (seconds_text ticks ++ (codes "</p>" ++ 10 ∷ [])))))
-    → whole ≡ counts ++ table_head → whole ≡ old ++ section_head rules solutions ticks
-head_written rules solutions ticks old title counts whole name name-is title-is counts-is whole-is =
-    rw (whole-is, counts-is, title-is, name-is)
-    (three_lines old (codes "<section>") (10 ∷ []) (codes "<h2>") (title_of rules) (codes "</h2>") (codes "<p>Solutions: ") (decimal solutions)
-    (codes ", seconds in all: ") (seconds_text ticks) (codes "</p>") table_head)
+-- the counts of a section are written
+pub counts_written : (solutions ticks : ℕ) (old whole : List ℕ)
+    → whole ≡ old ++ (codes "<p>Solutions: " ++ (decimal solutions ++ (codes ", seconds in all: " ++ (seconds_text ticks ++ (codes "</p>" ++ 10 ∷ [])))))
+    → whole ≡ old ++ counts solutions ticks
+counts_written solutions ticks old whole whole-is =
+    whole-is ∙ one_line old (codes "<p>Solutions: ") (decimal solutions) (codes ", seconds in all: ") (seconds_text ticks) (codes "</p>") (10 ∷ [])
+
+-- the heading of a section is written
+pub heading_written : (rules : Ruleset) (name : Option (List ℕ)) (old opened written whole : List ℕ) → opened ≡ old ++ opening rules → written ≡ opened ++ named name
+    → whole ≡ written ++ closing → whole ≡ old ++ heading rules name
+heading_written rules name old opened written whole opened-is written-is whole-is =
+    rw (whole-is, written-is, opened-is) (two_lines old (codes "<section>") (10 ∷ []) (codes "<h2>") (title_of rules) (named name) (codes "</h2>"))

@@ -75,11 +75,10 @@ page_end_some none = absurd cc
 
 -- ---- sections
 
--- the head was gathered, with these counts
-pub head_counted : (rules : Ruleset) (start pushed : List ℕ) (solutions ticks m n : ℕ) → solutions ≡ m → ticks ≡ n → pushed ≡ start ++ section_head rules solutions ticks
-    → pushed ≡ start ++ section_head rules m n
-head_counted rules start pushed solutions ticks m n solutions-is ticks-is pushed-is =
-    pushed-is ∙ ap (λ (k : ℕ). start ++ section_head rules k ticks) solutions-is ∙ ap (λ (k : ℕ). start ++ section_head rules m k) ticks-is
+-- the head was gathered, with this name and these counts
+pub head_counted : (rules : Ruleset) (start pushed : List ℕ) (name named : Option (List ℕ)) (solutions ticks m n : ℕ) → name ≡ named → solutions ≡ m → ticks ≡ n
+    → pushed ≡ start ++ section_head rules name solutions ticks → pushed ≡ start ++ section_head rules named m n
+head_counted rules start pushed name named solutions ticks m n name-is solutions-is ticks-is pushed-is = rw (← name-is, ← solutions-is, ← ticks-is) pushed-is
 
 -- the sections of these files
 abbrev pub of_files : List File → List ℕ

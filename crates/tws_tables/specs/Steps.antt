@@ -10,7 +10,7 @@ use Rattle.tws_tables.specs.declared.row_format.RowFormat.{RowFormat}
 use Rattle.tws_tables.specs.declared.row_format.RowFormat.TheVariants.{Csv, Html}
 use Rattle.tws_tables.specs.Csv.{csv_fields, csv_line}
 use Rattle.tws_tables.specs.Escaping.{shown_password}
-use Rattle.tws_tables.specs.Page.{page_cell, page_row}
+use Rattle.tws_tables.specs.Page.{page_cell, page_row, title_of}
 use Rattle.tws_tables.specs.Solved.{solutions_in, seconds_text}
 
 -- a prefix of the text was written, perhaps all of it
@@ -29,6 +29,14 @@ abbrev pub csv_details : (flags start seed : ℕ) → Ruleset → List ℕ
 csv_details flags start seed rules =
     hex (flags ∷ []) ++ codes "," ++ hex (start ∷ []) ++ codes "," ++ decimal seed ++ codes "," ++ ruleset_name rules ++ 10 ∷ []
 
+-- ---- the heading of a section, as it is written
+
+abbrev pub opening : Ruleset → List ℕ
+opening rules = codes "<section>" ++ 10 ∷ codes "<h2>" ++ title_of rules
+
+abbrev pub closing : List ℕ
+closing = codes "</h2>" ++ 10 ∷ []
+
 -- ---- a row of a page, as it is written
 
 abbrev pub level_cells : Key → List ℕ
@@ -39,6 +47,17 @@ time_cells ticks = page_cell (seconds_text ticks) ++ page_cell (decimal ticks)
 
 abbrev pub move_cells : (moves bytes : ℕ) → List ℕ
 move_cells moves bytes = page_cell (decimal moves) ++ page_cell (decimal bytes) ++ codes "</tr>" ++ 10 ∷ []
+
+-- ---- rows by a list of levels, as they are written
+
+abbrev pub no_cells : List ℕ
+no_cells = codes "<td></td><td></td>"
+
+abbrev pub unsolved_start : List ℕ
+unsolved_start = codes "<tr class=unsolved>"
+
+abbrev pub unsolved_end : List ℕ
+unsolved_end = codes "<td></td><td></td><td></td></tr>" ++ 10 ∷ []
 
 -- ---- rows of either kind
 

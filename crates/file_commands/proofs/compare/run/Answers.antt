@@ -1,6 +1,6 @@
-use Rattle.std.proofs.Common.{◌≡◌, ◌∙◌, ℕ, List, Option, ap, sym, subst, string_bytes}
-use Rattle.file_commands.specs.Compare.{ComparesInputs, compare_status}
-use Rattle.file_commands.proofs.Comparing.{compares_inputs}
+use Rattle.std.proofs.Common.{◌≡◌, ◌∙◌, ℕ, Bool, true, List, Option, IfOk, ap, sym, subst, string_bytes}
+use Rattle.file_commands.specs.Compare.{ComparesInputs, SaysOfTwo, compare_status}
+use Rattle.file_commands.proofs.Comparing.{compares_inputs, still_said}
 use Rattle.file_commands.proofs.compare.run.Goals as goal
 
 pub returns-clause-ran : goal.returns-clause-ran
@@ -18,3 +18,17 @@ returns-clause-ran g c =
     subst (λ (n : ℕ). ComparesInputs better (bytes_of (string_bytes arguments.mine)) (bytes_of (string_bytes arguments.theirs)) n old new) (sym c.end.ensures.status)
     (subst (λ (t : Option (List ℕ)). ComparesInputs better (bytes_of (string_bytes arguments.mine)) t (compare_status done) old new) theirs
     (subst (λ (m : Option (List ℕ)). ComparesInputs better m (g.S.File.Read.remaining c.in-Ok-open.file) (compare_status done) old new) mine ran))
+
+pub returns-clause-said : goal.returns-clause-said
+returns-clause-said g c =
+    let bytes_of = g.S.FileSystem.bytes_of c.args.system.now in
+    let arguments = c.args.arguments.now in
+    let done = c.run_compare-done.result in
+    let before = c.args.errors.now in
+    let left = c.run_compare-done.new.errors in
+    let mine : g.S.File.Read.remaining c.in-Ok.file ≡ bytes_of (string_bytes arguments.mine) = c.in-Ok.ensures ∙ ap bytes_of c.as_str.ensures.value in
+    let theirs : g.S.File.Read.remaining c.in-Ok-open.file ≡ bytes_of (string_bytes arguments.theirs) = c.in-Ok-open.ensures ∙ ap bytes_of c.as_str-2.ensures.value in
+    let said = subst (λ (t : Option (List ℕ)). IfOk done (λ (same : Bool). same ≡ true → SaysOfTwo arguments (left ≡ before) (bytes_of (string_bytes arguments.mine)) t (g.E.Write.contents before) (g.E.Write.contents left))) theirs
+    (subst (λ (m : Option (List ℕ)). IfOk done (λ (same : Bool). same ≡ true → SaysOfTwo arguments (left ≡ before) m (g.S.File.Read.remaining c.in-Ok-open.file) (g.E.Write.contents before) (g.E.Write.contents left))) mine c.run_compare-done.ensures.said) in
+    still_said (λ (e : g.row.E.Denot). SaysOfTwo arguments (e ≡ before) (bytes_of (string_bytes arguments.mine)) (bytes_of (string_bytes arguments.theirs)) (g.E.Write.contents before) (g.E.Write.contents e))
+    left c.end.new.errors done c.end.result c.end.ensures.status said c.end.ensures.silent
