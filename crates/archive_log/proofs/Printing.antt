@@ -176,6 +176,7 @@ event_plain (event.Started at lynx ms folder) =
     ((word (codes "at") refl, peer_plain at), (number_key (codes "lynx") refl lynx, (number_key (codes "ms") refl ms, folder_plain (option_map (λ f. f.now) folder))))
 event_plain (event.Refused peer why) = (peer_key peer, ((word (codes "why") refl, shown_plain (refusal_text why)), tt))
 event_plain (event.Dropped peer why) = (peer_key peer, ((word (codes "why") refl, drop_plain why), tt))
+event_plain (event.LeftOut count) = (number_key (codes "count") refl count, tt)
 event_plain (event.Taken upload millis) = (
   peer_key upload.peer,
   (
@@ -212,6 +213,7 @@ message_plain : (e : LogEvent) → Plain (message_of e)
 message_plain (event.Started at lynx ms folder) = word (codes "started") refl
 message_plain (event.Refused peer why) = word (codes "request refused") refl
 message_plain (event.Dropped peer why) = word (codes "request dropped") refl
+message_plain (event.LeftOut count) = word (codes "request lines left out") refl
 message_plain (event.Taken upload millis) = word (codes "put taken") refl
 message_plain (event.PutFailed peer block why) = word (codes "put failed") refl
 message_plain (event.GetFailed peer rules block why) = word (codes "get failed") refl

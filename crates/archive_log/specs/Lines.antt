@@ -65,6 +65,7 @@ abbrev pub message_of : LogEvent → List ℕ
 message_of (event.Started at lynx ms folder) = codes "started"
 message_of (event.Refused peer why) = codes "request refused"
 message_of (event.Dropped peer why) = codes "request dropped"
+message_of (event.LeftOut count) = codes "request lines left out"
 message_of (event.Taken upload millis) = codes "put taken"
 message_of (event.PutFailed peer block why) = codes "put failed"
 message_of (event.GetFailed peer rules block why) = codes "get failed"
@@ -86,6 +87,7 @@ abbrev pub level_of : LogEvent → Level
 level_of (event.Started at lynx ms folder) = level.Info
 level_of (event.Refused peer why) = level.Warn
 level_of (event.Dropped peer why) = level.Warn
+level_of (event.LeftOut count) = level.Warn
 level_of (event.Taken upload millis) = taken_level upload.fault
 level_of (event.PutFailed peer block why) = failed_level why
 level_of (event.GetFailed peer rules block why) = level.Warn
@@ -104,6 +106,7 @@ pairs_of (event.Started at lynx ms folder) =
     (codes "at", peer_text at) ∷ (codes "lynx", decimal lynx) ∷ (codes "ms", decimal ms) ∷ folder_pairs (option_map (λ f. f.now) folder)
 pairs_of (event.Refused peer why) = (codes "peer", peer_text peer) ∷ (codes "why", shown (refusal_text why)) ∷ []
 pairs_of (event.Dropped peer why) = (codes "peer", peer_text peer) ∷ (codes "why", drop_text why) ∷ []
+pairs_of (event.LeftOut count) = (codes "count", decimal count) ∷ []
 pairs_of (event.Taken upload millis) =
     (codes "peer", peer_text upload.peer) ∷ (codes "bytes", decimal upload.bytes) ∷ (codes "ruleset", ruleset_text upload.«ruleset»)
     ∷ (codes "fault", fault_text upload.fault) ∷ (codes "better", decimal upload.better) ∷ (codes "millis", decimal millis) ∷ []

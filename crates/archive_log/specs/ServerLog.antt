@@ -12,15 +12,19 @@ use Rattle.folders.specs.Folder.{FolderModel}
 use Rattle.archive_history.specs.History.{AddsNothing, Records, stem_text}
 use Rattle.archive_history.specs.Times.{ShowsMoment}
 use Rattle.archive_log.specs.declared.logged_transfer.LoggedTransfer.{LoggedTransfer}
-use Rattle.archive_log.specs.Events.{transfers_after, taken_after, served_after}
+use Rattle.archive_log.specs.declared.line_budget.LineBudget.{LineBudget}
+use Rattle.archive_log.specs.declared.log_event.LogEvent.{LogEvent}
+use Rattle.archive_log.specs.Events.{logged_at, event_of, transfers_after, taken_after, served_after}
+use Rattle.archive_log.specs.Budget.{after_event, after_events}
 
--- what a contract sees of a log: what it knows of the live transfers, the folder of its history, and how many files were
--- taken and gets finished
+-- what a contract sees of a log: what it knows of the live transfers, the folder of its history, how many files were taken
+-- and gets finished, and which lines were left out
 pub record Logged (H : Type 0) : Type 0 where
   pub transfers : List LoggedTransfer
   pub history : Option H
   pub taken : ℕ
   pub served : ℕ
+  pub budget : LineBudget
 
 -- a log after a step at some moment
 pub record FollowsStep {H : Type 0} (port : ℕ) (from : Option Endpoint) (step : Reported) (old new : Logged H) : Type 0 where
@@ -28,6 +32,12 @@ pub record FollowsStep {H : Type 0} (port : ℕ) (from : Option Endpoint) (step 
   pub transfers : new.transfers ≡ transfers_after now port from step old.transfers
   pub taken : new.taken ≡ taken_after step.event old.taken
   pub served : new.served ≡ served_after step.event old.served
+  pub budget : new.budget ≡ after_events now (event_of now (logged_at port old.transfers) from step) old.budget
+
+-- a log after an event at some moment that is no step
+pub record FollowsEvent {H : Type 0} (e : LogEvent) (old new : Logged H) : Type 0 where
+  pub now : ℕ
+  pub is : new ≡ record old { budget = after_event now e old.budget }
 
 -- ---- the history
 

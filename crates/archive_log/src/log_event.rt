@@ -2,6 +2,7 @@
 
 ghost use Rattle.std.specs.Prelude.{◌≡◌};
 ghost use Rattle.archive_log.specs.Lines.{message_of, level_of, taken_level, failed_level};
+ghost use Rattle.archive_log.specs.Budget.{is_bounded};
 
 use crate::upload::Upload;
 use archive_history::HistoryFault;
@@ -31,6 +32,10 @@ pub enum LogEvent<'a> {
     Dropped {
         peer: Endpoint,
         why: DropCause,
+    },
+    /// So many lines of refused and dropped requests were left out.
+    LeftOut {
+        count: u64,
     },
     /// A put was taken, `millis` milliseconds after its request.
     Taken {
@@ -85,6 +90,7 @@ impl LogEvent<'_> {
             LogEvent::Started { .. } => "started",
             LogEvent::Refused { .. } => "request refused",
             LogEvent::Dropped { .. } => "request dropped",
+            LogEvent::LeftOut { .. } => "request lines left out",
             LogEvent::Taken { .. } => "put taken",
             LogEvent::PutFailed { .. } => "put failed",
             LogEvent::GetFailed { .. } => "get failed",
@@ -95,9 +101,20 @@ impl LogEvent<'_> {
         }
     }
 
+    /// Whether a log has only so many of these lines in a second: those of a request that was refused or dropped.
+    pub(crate) fn is_bounded(&self) -> bool
+        ensures { result ≡ is_bounded self.now }
+    {
+        match self {
+            LogEvent::Refused { .. } => true,
+            LogEvent::Dropped { .. } => true,
+            _ => false,
+        }
+    }
+
     /// The level of its line: `Error` if a collection was not kept or a file is not in the history; `Warn` if a request was
-    /// refused or dropped, a transfer failed for another reason, or a file that was taken is not known to be a solution
-    /// file; `Info` otherwise.
+    /// refused or dropped, lines of such requests were left out, a transfer failed for another reason, or a file that was taken
+    /// is not known to be a solution file; `Info` otherwise.
     pub fn level(&self) -> Level
         ensures { result ≡ level_of self.now }
     {
@@ -108,6 +125,7 @@ impl LogEvent<'_> {
             LogEvent::Refused { .. } | LogEvent::Dropped { .. } | LogEvent::GetFailed { .. } =>
                 Level::Warn,
             LogEvent::PutFailed { why, .. } => failed_level(*why),
+            LogEvent::LeftOut { .. } => Level::Warn,
             LogEvent::KeepFailed { .. } => Level::Error,
             LogEvent::NotRecorded { .. } => Level::Error,
         }

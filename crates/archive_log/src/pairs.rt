@@ -248,6 +248,7 @@ impl Source for LogEvent<'_> {
             } => visit_started(visitor, *at, *lynx, *ms, *folder),
             LogEvent::Refused { peer, why } => visit_refused(visitor, *peer, *why),
             LogEvent::Dropped { peer, why } => visit_dropped(visitor, *peer, *why),
+            LogEvent::LeftOut { count } => visit_pair(visitor, "count", count),
             LogEvent::Taken { upload, millis } => visit_taken(visitor, upload, *millis),
             LogEvent::PutFailed { peer, block, why } => visit_put_failed(
                 visitor, *peer, *block, *why,

@@ -10,7 +10,7 @@ ghost use Rattle.archive_keepers.specs.Limited.{own_calls, saturating_sum};
 use crate::log_event::LogEvent;
 use crate::log_line::LogLine;
 use archive_history::Stamp;
-use archive_keepers::{Limited, ServedKeeper};
+use archive_keepers::{Limited, Replaced, ServedKeeper};
 use archive_table::{KeepFault, Keeper};
 use arrayvec::ArrayString;
 use log::Log;
@@ -65,8 +65,10 @@ impl<K: ServedKeeper, C: Clock, L: Log> ReportingKeeper<K, C, L> {
             return;
         }
         let mut cause = ArrayString::<CAUSE>::new();
-        if let Some(error) = self.keeper.keeper().last_error() {
-            // What does not fit is left out.
+        // What does not fit is left out.
+        if let Some(replaced) = self.keeper.keeper().replaced() {
+            let _ = write!(cause, "{replaced}");
+        } else if let Some(error) = self.keeper.keeper().last_error() {
             let _ = write!(cause, "{error}");
         }
         self.report(ruleset, bytes, cause.as_str());
@@ -123,6 +125,10 @@ impl<K: ServedKeeper, C: Clock, L: Log> ServedKeeper for ReportingKeeper<K, C, L
 
     fn is_usable(&self) -> bool {
         self.keeper.is_usable()
+    }
+
+    fn replaced(&self) -> Option<Replaced> {
+        self.keeper.replaced()
     }
 
     fn unreadable(&self) -> u64 {

@@ -1,12 +1,14 @@
 //! The observer that writes the log and the history.
 
-ghost use Rattle.std.specs.Prelude.{◌≡◌, [], length, true, option_copied};
+ghost use Rattle.std.specs.Prelude.{◌≡◌, [], length, true, option_copied, if◌then◌else◌};
 ghost use Rattle.tws_file.specs.declared.«ruleset».Ruleset.TheVariants.{Lynx, Ms};
 ghost use Rattle.archive_history.specs.Times.{ShowsMoment};
 ghost use Rattle.archive_table.specs.Table.{map_of};
 ghost use Rattle.archive_log.specs.Events.{served_after, taken_after};
-ghost use Rattle.archive_log.specs.ServerLog.{FollowsStep, KeepsFile, KeepsTaken};
+ghost use Rattle.archive_log.specs.ServerLog.{FollowsEvent, FollowsStep, KeepsFile, KeepsTaken};
+ghost use Rattle.archive_log.specs.Budget.{after_event, after_events, after_line, is_bounded, new_budget, settled};
 
+use crate::line_budget::LineBudget;
 use crate::log_event::LogEvent;
 use crate::log_line::LogLine;
 use crate::logged_transfers::LoggedTransfers;
@@ -27,7 +29,8 @@ use tws_file::Ruleset;
 const CAUSE: usize = 256;
 
 /// Writes a line to a log for each event of a server, and puts each solution file that was taken into a history, if there
-/// is one. Whatever it cannot write or has no memory for changes nothing else.
+/// is one. Whatever it cannot write or has no memory for changes nothing else. Of refused and dropped requests it writes at most
+/// `LINES` lines in a second, and then how many it left out.
 #[derive(Drop)]
 pub struct ServerLog<C: Clock, L: Log, H: HistoryFolder, A: Allocator + Copy = Global> {
     alloc: A,
@@ -39,6 +42,8 @@ pub struct ServerLog<C: Clock, L: Log, H: HistoryFolder, A: Allocator + Copy = G
     taken: u64,
     /// How many gets were finished.
     served: u64,
+    /// Which lines were left out.
+    budget: LineBudget,
 }
 
 // Milliseconds of the clock that does not go back; 0 if it cannot be read.
@@ -54,13 +59,13 @@ impl<C: Clock, L: Log, H: HistoryFolder, A: Allocator + Copy> Model for ServerLo
 
     ghost Value = { Logged H };
 
-    ghost view = { λ log. record { transfers = log.transfers; history = log.history; taken = log.taken; served = log.served } };
+    ghost view = { λ log. record { transfers = log.transfers; history = log.history; taken = log.taken; served = log.served; budget = log.budget } };
 }
 
 impl<C: Clock, L: Log, H: HistoryFolder, A: Allocator + Copy> ServerLog<C, L, H, A> {
     /// A log of a server that has made no step yet.
     pub fn new(alloc: A, clock: C, log: L, history: Option<H>) -> Self
-        ensures { result ≡ record { transfers = []; history = history; taken = 0; served = 0 } }
+        ensures { result ≡ record { transfers = []; history = history; taken = 0; served = 0; budget = new_budget } }
     {
         ServerLog {
             alloc,
@@ -70,6 +75,7 @@ impl<C: Clock, L: Log, H: HistoryFolder, A: Allocator + Copy> ServerLog<C, L, H,
             transfers: LoggedTransfers::new(),
             taken: 0,
             served: 0,
+            budget: LineBudget::new(),
         }
     }
 
@@ -100,6 +106,46 @@ impl<C: Clock, L: Log, H: HistoryFolder, A: Allocator + Copy> ServerLog<C, L, H,
     // Writes the line of an event that happens now.
     fn report_now(&self, event: LogEvent<'_>) {
         self.report(&Stamp::now(&self.clock), event);
+    }
+
+    // Writes how many lines were left out, if any were.
+    fn report_left_out(&self, time: &Stamp, count: u64) {
+        if count > 0 {
+            self.report(time, LogEvent::LeftOut { count });
+        }
+    }
+
+    // Whether the line of an event at this moment is to be written.
+    fn admits(&mut self, now: u64, event: &LogEvent<'_>) -> bool
+        ensures { self.new ≡ record self.old { budget = if is_bounded event.now then after_line now self.old.budget else self.old.budget } }
+    {
+        if event.is_bounded() {
+            self.budget.admit(now)
+        } else {
+            true
+        }
+    }
+
+    // Writes the line of an event at this moment, if it is not one too many, and before it how many lines were left out until
+    // then.
+    fn report_at(&mut self, now: u64, time: &Stamp, event: LogEvent<'_>)
+        ensures { self.new ≡ record self.old { budget = after_event now event.entry self.old.budget } }
+    {
+        let left_out = self.budget.take_by(now);
+        self.report_left_out(time, left_out);
+        if self.admits(now, &event) {
+            self.report(time, event);
+        }
+    }
+
+    // The same, if there was an event.
+    fn report_if(&mut self, now: u64, time: &Stamp, event: Option<LogEvent<'_>>)
+        ensures { self.new ≡ record self.old { budget = after_events now event.entry self.old.budget } }
+    {
+        match event {
+            Some(event) => self.report_at(now, time, event),
+            None => {}
+        }
     }
 
     // The event that the server stops.
@@ -183,9 +229,7 @@ impl<C: Clock, L: Log, H: HistoryFolder, A: Allocator + Copy> ServerLog<C, L, H,
             return;
         }
         let time = Stamp::now(&self.clock);
-        if let Some(event) = event {
-            self.report(&time, event);
-        }
+        self.report_if(now, &time, event);
         self.record_step(&time, step);
     }
 }
@@ -246,7 +290,7 @@ impl<C: Clock, L: Log, H: HistoryFolder, A: Allocator + Copy> Observer for Serve
     }
 }
 
-/// The server's start and stop are reported, and each request that was dropped.
+/// The server's start and stop are reported, and the requests that were dropped.
 impl<C: Clock, L: Log, H: HistoryFolder, A: Allocator + Copy> ServerObserver
     for ServerLog<C, L, H, A> {
     fn on_started<T: Allocator + Copy>(
@@ -261,14 +305,19 @@ impl<C: Clock, L: Log, H: HistoryFolder, A: Allocator + Copy> ServerObserver
     }
 
     fn on_dropped(&mut self, from: Endpoint, why: DropCause)
-        ensures same { self.new ≡ self.old }
+        ensures dropped { FollowsEvent (LogEvent.Dropped from why) self.old self.new }
     {
-        self.report_now(LogEvent::Dropped { peer: from, why });
+        let now = millis_now(&self.clock);
+        let time = Stamp::now(&self.clock);
+        self.report_at(now, &time, LogEvent::Dropped { peer: from, why });
     }
 
     fn on_stopped(&mut self)
-        ensures same { self.new ≡ self.old }
+        ensures same { self.new ≡ record self.old { budget = settled self.old.budget } }
     {
-        self.report_now(self.stopped_event());
+        let time = Stamp::now(&self.clock);
+        let left_out = self.budget.take();
+        self.report_left_out(&time, left_out);
+        self.report(&time, self.stopped_event());
     }
 }

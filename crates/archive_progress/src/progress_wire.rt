@@ -46,6 +46,13 @@ impl<N: ReadyWire, W: Write> ProgressWire<N, W> {
         &self.wire
     }
 
+    /// The length in bytes of the file of the transfer, as `begin` said it.
+    pub fn length(&self) -> Option<u64>
+        ensures { result ≡ self.now.tally.length }
+    {
+        self.tally.length
+    }
+
     /// The next transfer begins: nothing is counted of it yet. The length in bytes of its file is that of a put; a get does
     /// not know it.
     pub fn begin(&mut self, length: Option<u64>)

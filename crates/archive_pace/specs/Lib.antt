@@ -1,0 +1,4 @@
+pub mod Pace
+pub mod View
+pub mod Queue
+pub mod Unheard
