@@ -111,7 +111,7 @@ served_by given made port turns policies status usable before after was kept now
 -- an address that was given is one
 some_host : (given : Option (List ℕ)) (host : ℕ) → HasHost given host → IsNoHost given → ⊥
 some_host None host is never = never
-some_host (Some address) host is never = never host is
+some_host (Some address) host is never = omega (arith, is.1, never host is.0)
 
 -- hosts that were given are a list
 some_putters : (given : Option (List ℕ)) (putters : Putters) → HasPutters given putters → IsNoPutters given → ⊥

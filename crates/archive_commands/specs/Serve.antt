@@ -12,7 +12,7 @@ use Rattle.archive_wire.specs.Wire.{Entry}
 use Rattle.archive_commands.specs.declared.turn_limit.TurnLimit.{TurnLimit}
 use Rattle.archive_commands.specs.declared.turn_limit.TurnLimit.TheVariants.{Turns, Rounds}
 use Rattle.archive_commands.specs.declared.serve.ServeArguments.{ServeArguments}
-use Rattle.archive_commands.specs.declared.limits.TheConstants.{PER_HOST, TURNS}
+use Rattle.archive_commands.specs.declared.limits.TheConstants.{HISTORY, MAX_HISTORY, PER_HOST, TURNS}
 use Rattle.command_line.specs.declared.tool_fault.ToolFault.{ToolFault}
 use Rattle.archive_server.specs.declared.policies.Policies.{Policies}
 use Rattle.archive_server.specs.declared.putters.Putters.{Putters}
@@ -36,6 +36,9 @@ per_host_option = record { name = codes "per-host"; most = LIVE; default = PER_H
 abbrev pub limit_option : NumberOption
 limit_option = record { name = codes "limit"; most = MAX_FILE; default = MAX_FILE }
 
+abbrev pub history_limit_option : NumberOption
+history_limit_option = record { name = codes "history-limit"; most = MAX_HISTORY; default = HISTORY }
+
 -- an option with a text
 abbrev pub text_rule : Text → Rule
 text_rule name = record (new_rule name) { long = Some name; value_names = 1 }
@@ -58,7 +61,7 @@ any_rule = record (new_rule (codes "any-solution")) { long = Some (codes "any-so
 abbrev pub history_rule : Rule
 history_rule = text_rule (codes "history")
 
--- with only the options that are numbers
+-- with only those options that are numbers, without that of the history
 abbrev pub numbers_app : App
 numbers_app =
     with_rule (with_rule (with_rule (with_rule (new_app serve_name) (number_rule port_option)) (number_rule turns_option)) (number_rule per_host_option)) (number_rule limit_option)
@@ -67,14 +70,14 @@ numbers_app =
 abbrev pub places_app : App
 places_app = with_rule (with_rule (with_rule numbers_app bound_rule) put_from_rule) dir_rule
 
--- with all options but one
+-- with all options but two
 abbrev pub logging_app : App
-logging_app = with_rule (with_rule places_app log_rule) history_rule
+logging_app = with_rule (with_rule (with_rule places_app log_rule) history_rule) (number_rule history_limit_option)
 
 abbrev pub ports_rule : Rule
 ports_rule = text_rule (codes "ports")
 
--- `serve [--port N] [--turns N] [--per-host N] [--limit BYTES] [--address A.B.C.D] [--put-from A.B.C.D[,A.B.C.D..]] [--dir DIR] [--log] [--history DIR] [--any-solution] [--ports FROM-TO]`
+-- `serve [--port N] [--turns N] [--per-host N] [--limit BYTES] [--address A.B.C.D] [--put-from A.B.C.D[,A.B.C.D..]] [--dir DIR] [--log] [--history DIR] [--history-limit BYTES] [--any-solution] [--ports FROM-TO]`
 abbrev pub serve_app : App
 serve_app = with_rule (with_rule logging_app any_rule) ports_rule
 
@@ -91,6 +94,7 @@ pub record AsksToServe (rows : List Row) (arguments : ServeArguments) : Type 0 w
   pub any_is : HasFlag any_rule rows arguments.any_solution
   pub log_is : HasFlag log_rule rows arguments.log
   pub history_is : option_map string_bytes arguments.history ≡ first_of history_rule.id rows
+  pub history_limit_is : HasNumber history_limit_option rows arguments.history_limit
 
 -- ---- what it does and prints
 
@@ -178,15 +182,19 @@ pub record Served (port turns : ℕ) (policies : Policies) (start : Table) (stat
 
 -- ---- where it serves
 
+-- the first address of a group, 224.0.0.0; those from there on are of groups, reserved, or of every host
+abbrev pub first_group : ℕ
+first_group = 3758096384
+
 -- the host of the address that was given; 0, which is every address of this host, if none was
 abbrev pub HasHost : Option (List ℕ) → ℕ → Type 0
 HasHost None host = host ≡ 0
-HasHost (Some address) host = IsAddress address host
+HasHost (Some address) host = IsAddress address host × (host < first_group)
 
--- what was given is no address
+-- what was given is no address of one host
 abbrev pub IsNoHost : Option (List ℕ) → Type 0
 IsNoHost None = ⊥
-IsNoHost (Some address) = IsNoAddress address
+IsNoHost (Some address) = (host : ℕ) → IsAddress address host → first_group ≤ host
 
 -- what was given for the address
 abbrev pub given_address : ServeArguments → Option (List ℕ)

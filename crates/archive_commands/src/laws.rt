@@ -2,7 +2,7 @@
 
 ghost use Rattle.std.specs.Prelude.{◌≡◌};
 
-use crate::limits::{MAX_PORT, PER_HOST, PORT, ROUNDS, TURNS};
+use crate::limits::{HISTORY, MAX_HISTORY, MAX_PORT, PER_HOST, PORT, ROUNDS, TURNS};
 
 /// The values of the limits, which the definitions refer to by name.
 pub fn limit_values()
@@ -11,4 +11,6 @@ pub fn limit_values()
     ensures turns { TURNS ≡ 1000000000 }
     ensures rounds { ROUNDS ≡ 1000000000 }
     ensures per_host { PER_HOST ≡ 32 }
+    ensures history { HISTORY ≡ 10000000000 }
+    ensures most_history { MAX_HISTORY ≡ 1000000000000000 }
 {}

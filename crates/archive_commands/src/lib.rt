@@ -38,7 +38,7 @@ mod turn_limit;
 pub use address::Address;
 pub use get::{GetArguments, GetFault, get_file};
 pub use laws::limit_values;
-pub use limits::{LEAST_PORTS, PER_HOST, PORT, ROUNDS, TURNS};
+pub use limits::{HISTORY, LEAST_PORTS, PER_HOST, PORT, ROUNDS, TURNS};
 pub use network::Network;
 pub use ports::Ports;
 pub use put::{PutArguments, put_file};

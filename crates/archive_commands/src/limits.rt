@@ -16,5 +16,11 @@ pub const TURNS: u64 = 1_000_000_000;
 /// The most rounds that a client makes, each of which waits `TIMEOUT` milliseconds of `archive_wire` at most.
 pub const ROUNDS: u64 = 1_000_000_000;
 
+/// How many bytes a history may have, unless `serve` is given another number.
+pub const HISTORY: u64 = 10_000_000_000;
+
+/// The most bytes that `serve` may be given for a history.
+pub(crate) const MAX_HISTORY: u64 = 1_000_000_000_000_000;
+
 /// How many transfers one host may have, unless `serve` is given another number: half of the places.
 pub const PER_HOST: u64 = 32;

@@ -1,6 +1,6 @@
 //! The command `serve`: its arguments.
 
-ghost use Rattle.std.specs.Prelude.{◌≡◌, false, Option, IfOk, IfSome, IfNone, Some, None, option_map, string_bytes};
+ghost use Rattle.std.specs.Prelude.{◌≡◌, ◌<◌, ◌≤◌, false, Option, IfOk, IfSome, IfNone, Some, None, option_map, string_bytes};
 ghost use Rattle.clap.specs.Matches.{found_of};
 ghost use Rattle.clap.specs.Words.{app_of, first_of, rows_of, rule_of};
 ghost use Rattle.clap.specs.declared.builder.command.Command.TheViews.{out-Command};
@@ -8,11 +8,11 @@ ghost use Rattle.command_line.specs.Arguments.{Answers};
 ghost use Rattle.archive_commands.specs.Arguments.{number_rule};
 ghost use Rattle.archive_commands.specs.Ports.{ArePorts};
 ghost use Rattle.archive_commands.specs.declared.ports.Ports.{Ports as PortsModel};
-ghost use Rattle.archive_commands.specs.Serve.{AsksToServe, HasHost, IsNoHost, any_rule, given_address, limit_option, log_rule, logging_app, numbers_app, per_host_option, places_app, ports_rule, serve_app, text_rule, turns_option};
+ghost use Rattle.archive_commands.specs.Serve.{AsksToServe, HasHost, IsNoHost, any_rule, first_group, given_address, history_limit_option, limit_option, log_rule, logging_app, numbers_app, per_host_option, places_app, ports_rule, serve_app, text_rule, turns_option};
 
 use crate::address::Address;
 use crate::arguments::{flag_given, number_argument, number_given, port_argument, port_given};
-use crate::limits::{PER_HOST, TURNS};
+use crate::limits::{HISTORY, MAX_HISTORY, PER_HOST, TURNS};
 use crate::ports::Ports;
 use archive_table::LIVE;
 use clap::builder::ArgAction;
@@ -44,8 +44,10 @@ pub struct ServeArguments {
     pub any_solution: bool,
     /// Whether each event is logged to standard error.
     pub log: bool,
-    /// The folder that keeps each file that changes a collection, if any.
+    /// The folder that keeps each solution file that was taken, if any.
     pub history: Option<String>,
+    /// With so many bytes in that folder no collection is changed.
+    pub history_limit: u64,
 }
 
 impl ServeArguments {
@@ -61,7 +63,7 @@ impl ServeArguments {
     }
 
     /// The host of the address that was given; 0, which is every address of this host, if none was. `None` if what was
-    /// given is not an address.
+    /// given is not an address, or one of a group or of every host (224.0.0.0 and above).
     pub fn host(&self) -> Option<u32>
         ensures some { IfSome result (HasHost (given_address self.now)) }
         ensures none { IfNone result (IsNoHost (given_address self.now)) }
@@ -70,9 +72,24 @@ impl ServeArguments {
             return Some(0);
         };
         match Address::read(text.as_str()) {
-            Some(address) => Some(address.host),
+            Some(address) => of_one_host(address),
             None => None,
         }
+    }
+}
+
+// The first address of a group (RFC 1112 section 4). Those above are of groups, reserved, or of every host.
+const GROUPS: u32 = 0xE000_0000;
+
+// The host of an address that one host can have.
+fn of_one_host(address: Address) -> Option<u32>
+    ensures some { IfSome result (λ host. (host ≡ address.host) × (host < first_group)) }
+    ensures none { IfNone result (first_group ≤ address.host) }
+{
+    if address.host < GROUPS {
+        Some(address.host)
+    } else {
+        None
     }
 }
 
@@ -140,7 +157,20 @@ fn limit_argument<'a>(alloc: Global) -> Arg<'a>
     )
 }
 
-// The command with only its options that are numbers.
+fn history_limit_argument<'a>(alloc: Global) -> Arg<'a>
+    ensures rule { rule_of result ≡ number_rule history_limit_option }
+    ensures local { result.global ≡ false }
+{
+    number_argument(
+        alloc,
+        "history-limit",
+        "BYTES",
+        MAX_HISTORY,
+        "Change no collection once the history has as many bytes, 10000000000 if none is given",
+    )
+}
+
+// The command with only those options that are numbers, without that of the history.
 fn numbers_command<'a>(alloc: Global) -> Result<Command<'a>, AllocError>
     ensures app { IfOk result (λ command. app_of command ≡ numbers_app) }
     ensures local { IfOk result (λ command. (out-Command command).has_globals ≡ false) }
@@ -179,7 +209,7 @@ fn places_command<'a>(alloc: Global) -> Result<Command<'a>, AllocError>
         .arg(text_argument(alloc, "dir", "DIR", "The folder that keeps the collections"))
 }
 
-// The command with all options but `--any-solution`.
+// The command with all options but `--any-solution` and `--ports`.
 fn logging_command<'a>(alloc: Global) -> Result<Command<'a>, AllocError>
     ensures app { IfOk result (λ command. app_of command ≡ logging_app) }
     ensures local { IfOk result (λ command. (out-Command command).has_globals ≡ false) }
@@ -190,8 +220,9 @@ fn logging_command<'a>(alloc: Global) -> Result<Command<'a>, AllocError>
             alloc,
             "history",
             "DIR",
-            "The folder that keeps each file that changes a collection",
-        ))
+            "The folder that keeps each solution file that was taken",
+        ))?
+        .arg(history_limit_argument(alloc))
 }
 
 /// The command line of `serve`.
@@ -243,6 +274,9 @@ pub fn asked(alloc: Global, words: &ArgMatches) -> Result<Option<ServeArguments>
     let Some(limit) = number_given(words, "limit", MAX_FILE, MAX_FILE) else {
         return Ok(None);
     };
+    let Some(history_limit) = number_given(words, "history-limit", HISTORY, MAX_HISTORY) else {
+        return Ok(None);
+    };
     let Some(ports) = ports_given(words) else {
         return Ok(None);
     };
@@ -264,5 +298,6 @@ pub fn asked(alloc: Global, words: &ArgMatches) -> Result<Option<ServeArguments>
         any_solution,
         log,
         history,
+        history_limit,
     }))
 }

@@ -8,7 +8,7 @@ ghost use Rattle.archive_commands.specs.Serve.{IsLimitFor, ServeEnds, Served, Se
 use crate::line::write_line;
 use crate::serve::ServeArguments;
 use crate::turn_limit::TurnLimit;
-use archive_keepers::ServedKeeper;
+use archive_keepers::{Replaced, ServedKeeper};
 use archive_server::{Policies, Server, ServerObserver};
 use archive_wire::ReadyWire;
 use command_line::{FAILED, ToolFault, finish};
@@ -29,11 +29,15 @@ pub struct Service<'a, K: ServedKeeper, O: ServerObserver> {
     folder: Option<&'a str>,
 }
 
-// Reports that it is not known whether a collection was kept, and returns the status.
-fn not_known<E: Write>(name: &str, errors: &mut E) -> u8
+// Reports that nothing can be kept any more, since this was replaced or, if nothing was, since it is not known whether a
+// collection was kept, and returns the status.
+fn unusable<E: Write>(replaced: Option<Replaced>, name: &str, errors: &mut E) -> u8
     ensures { result ≡ 2 }
 {
-    let _ = writeln!(errors, "tws: {name}: not known whether kept");
+    let _ = match replaced {
+        Some(replaced) => writeln!(errors, "tws: {name}: {replaced}"),
+        None => writeln!(errors, "tws: {name}: not known whether kept"),
+    };
     FAILED
 }
 
@@ -41,6 +45,7 @@ fn not_known<E: Write>(name: &str, errors: &mut E) -> u8
 fn end_serving<E: Write>(
     done: Result<(), ToolFault>,
     usable: bool,
+    replaced: Option<Replaced>,
     name: &str,
     errors: &mut E,
 ) -> u8
@@ -52,7 +57,7 @@ fn end_serving<E: Write>(
     if usable {
         status
     } else {
-        not_known(name, errors)
+        unusable(replaced, name, errors)
     }
 }
 
@@ -183,6 +188,7 @@ impl<'a, K: ServedKeeper, O: ServerObserver> Service<'a, K, O> {
         end_serving(
             done,
             self.keeper.is_usable(),
+            self.keeper.replaced(),
             self.folder.unwrap_or("memory"),
             errors,
         )

@@ -58,8 +58,12 @@ impl<N: TransferWire, W: Write> TransferWire for ProgressWire<N, W> {
         self.wire().last_error()
     }
 
+    // The wire below is not told the length.
     fn reached(&self) -> Option<Reached> {
-        self.wire().reached()
+        match self.wire().reached() {
+            Some(reached) => Some(reached.with_length(self.length())),
+            None => None,
+        }
     }
 
     fn begin(&mut self, length: Option<u64>) {

@@ -31,6 +31,11 @@ impl FolderPath {
         Ok(FolderPath { dir, path })
     }
 
+    /// The folder's own path.
+    pub(crate) fn dir(&self) -> Path<'_> {
+        Path::new(self.dir.as_str())
+    }
+
     /// The path of the file with this name.
     ///
     /// # Errors

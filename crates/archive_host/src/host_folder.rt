@@ -4,15 +4,17 @@ ghost use Rattle.std.specs.Prelude.{◌≡◌, ◌≤◌, false, None, Some, IfO
 ghost use Rattle.byte_output.specs.Failures.{Rises};
 
 use crate::folder_path::FolderPath;
+use crate::history_room::HistoryRoom;
 use crate::host_file::HostFile;
+use crate::known_file::Place;
 use archive_history::HistoryFolder;
-use archive_keepers::FolderKeeper;
 use folders::{CallFault, Folder};
 use std::alloc::Allocator;
 use std::fs::{File, Metadata, OpenOptions, TryLockError};
 use std::io::{ErrorKind, Read};
 use std::path::Path;
 use std::rt::Files;
+use std::time::Clock;
 use std::{fs, io};
 use system_files::permissions_kept;
 use thiserror::Error;
@@ -31,9 +33,6 @@ pub enum OpenFault {
     Memory,
 }
 
-/// A keeper over a folder of the system.
-pub type DirKeeper<R> = FolderKeeper<HostFolder<R>>;
-
 // The folder of a day, which is open.
 #[derive(Drop)]
 struct OpenDay {
@@ -44,7 +43,7 @@ struct OpenDay {
 /// A folder of the system. A new file gets the permissions of the file that it replaces, as `permissions_kept` says; one
 /// that is no regular file, such as a symbolic link, is neither replaced nor opened. It has no model.
 #[derive(Drop)]
-pub struct HostFolder<R: Files<File = File> + AllocGlobal + Copy> {
+pub struct HostFolder<R: Files<File = File> + Clock + AllocGlobal + Copy> {
     rt: R,
     // The path of the file that a call is for, and of the one that it is to replace.
     path: FolderPath,
@@ -53,12 +52,14 @@ pub struct HostFolder<R: Files<File = File> + AllocGlobal + Copy> {
     folder: File,
     // The folder of a day, if one was opened: it is synced from then on.
     day: Option<OpenDay>,
+    // How much room it has, if that matters: that of a history.
+    room: Option<HistoryRoom<R>>,
     faults: u64,
     error: Option<io::Error>,
 }
 
-// The fault for an error of the system or of std. Only errors raised by std itself lack an OS error code.
-fn fault_of(e: &io::Error) -> CallFault {
+/// The fault for an error of the system or of std. Only errors raised by std itself lack an OS error code.
+pub(crate) fn fault_of(e: &io::Error) -> CallFault {
     if e.kind() == ErrorKind::OutOfMemory && e.raw_os_error().is_none() {
         CallFault::Memory
     } else {
@@ -88,8 +89,11 @@ fn make_folder<R: Files<File = File>>(rt: &R, path: Path<'_>) -> io::Result<bool
     }
 }
 
-// What the system knows of a file, if there is one.
-fn metadata<R: Files<File = File>>(rt: &R, path: Path<'_>) -> io::Result<Option<Metadata>> {
+/// What the system knows of a file, if there is one.
+pub(crate) fn metadata<R: Files<File = File>>(
+    rt: &R,
+    path: Path<'_>,
+) -> io::Result<Option<Metadata>> {
     match fs::symlink_metadata(rt, path) {
         Ok(metadata) => Ok(Some(metadata)),
         Err(e) => {
@@ -102,7 +106,21 @@ fn metadata<R: Files<File = File>>(rt: &R, path: Path<'_>) -> io::Result<Option<
     }
 }
 
-// The same of a regular file. Fails if it is another one.
+/// Removes a file, if it is there.
+pub(crate) fn remove<R: Files<File = File>>(rt: &R, path: Path<'_>) -> io::Result<()> {
+    match fs::remove_file(rt, path) {
+        Ok(()) => Ok(()),
+        Err(e) => {
+            if e.kind() == ErrorKind::NotFound {
+                Ok(())
+            } else {
+                Err(e)
+            }
+        }
+    }
+}
+
+// What the system knows of a regular file, if there is one. Fails if it is another one.
 fn regular<R: Files<File = File>>(rt: &R, path: Path<'_>) -> io::Result<Option<Metadata>> {
     match metadata(rt, path)? {
         Some(metadata) => {
@@ -124,7 +142,7 @@ fn keep_permissions(file: &File, old: &Metadata) -> io::Result<()> {
     Ok(())
 }
 
-impl<R: Files<File = File> + AllocGlobal + Copy> HostFolder<R> {
+impl<R: Files<File = File> + Clock + AllocGlobal + Copy> HostFolder<R> {
     /// Opens the folder of this name. No later call allocates anything but the text that it reads, the name of a day, and
     /// the path of a name of more than 126 bytes.
     ///
@@ -146,6 +164,7 @@ impl<R: Files<File = File> + AllocGlobal + Copy> HostFolder<R> {
             target,
             folder,
             day: None,
+            room: None,
             faults: 0,
             error: None,
         })
@@ -178,11 +197,25 @@ impl<R: Files<File = File> + AllocGlobal + Copy> HostFolder<R> {
         }
     }
 
+    /// Gives it so much room: without any no day is opened.
+    pub fn set_room(&mut self, room: HistoryRoom<R>)
+        ensures room { self.new.room ≡ Some room }
+        ensures faults { self.new.faults ≡ self.old.faults }
+        ensures error { self.new.error ≡ self.old.error }
+    {
+        self.room = Some(room);
+    }
+
     /// What the system said of the call that failed last, `None` if none has.
     pub fn last_error(&self) -> Option<io::Error>
         ensures { result ≡ self.now.error }
     {
         self.error
+    }
+
+    /// Where the folder is.
+    pub(crate) fn place(&self) -> io::Result<Place> {
+        Ok(Place::of(&self.folder.metadata()?))
     }
 
     // Notes a call that failed.
@@ -221,16 +254,7 @@ impl<R: Files<File = File> + AllocGlobal + Copy> HostFolder<R> {
     fn remove_file(&mut self, name: &str) -> io::Result<()>
         ensures faults { self.new.faults ≡ self.old.faults }
     {
-        match fs::remove_file(&self.rt, self.path.of(name)?) {
-            Ok(()) => Ok(()),
-            Err(e) => {
-                if e.kind() == ErrorKind::NotFound {
-                    Ok(())
-                } else {
-                    Err(e)
-                }
-            }
-        }
+        remove(&self.rt, self.path.of(name)?)
     }
 
     // `create_new` without counting faults.
@@ -269,6 +293,9 @@ impl<R: Files<File = File> + AllocGlobal + Copy> HostFolder<R> {
         ensures faults { self.new.faults ≡ self.old.faults }
         ensures name { IfOk result (λ d. string_bytes d.name ≡ day.now) }
     {
+        if let Some(room) = &mut self.room {
+            room.look()?;
+        }
         let name = String::from_str(self.rt.alloc(), day)?;
         let is_open = self.is_open(day);
         let path = self.path.of(day)?;
@@ -295,7 +322,7 @@ impl<R: Files<File = File> + AllocGlobal + Copy> HostFolder<R> {
     }
 }
 
-impl<R: Files<File = File> + AllocGlobal + Copy> Folder for HostFolder<R> {
+impl<R: Files<File = File> + Clock + AllocGlobal + Copy> Folder for HostFolder<R> {
     type File = HostFile;
 
     ghost use Rattle.folders.specs.Folder.{no_model};
@@ -360,7 +387,7 @@ impl<R: Files<File = File> + AllocGlobal + Copy> Folder for HostFolder<R> {
     }
 }
 
-impl<R: Files<File = File> + AllocGlobal + Copy> HistoryFolder for HostFolder<R> {
+impl<R: Files<File = File> + Clock + AllocGlobal + Copy> HistoryFolder for HostFolder<R> {
     ghost is_open = { λ f day. option_map (λ d. string_bytes d.name) f.day ≡ Some day };
 
     fn open_day(&mut self, day: &str) -> Result<(), CallFault> {

@@ -8,18 +8,25 @@
 //! called.
 #![tactic(auto)]
 
+mod dir_keeper;
 mod folder_path;
+mod history_room;
 mod host_file;
 mod host_folder;
+mod known_file;
 mod laws;
 mod open_port;
 mod open_ports;
 mod port_deck;
+mod recording_keeper;
 mod udp_wire;
 mod unread;
 mod watch;
 
+pub use dir_keeper::DirKeeper;
+pub use history_room::HistoryRoom;
 pub use host_file::HostFile;
-pub use host_folder::{DirKeeper, HostFolder, OpenFault};
+pub use host_folder::{HostFolder, OpenFault};
 pub use laws::dealt_ports;
+pub use recording_keeper::RecordingKeeper;
 pub use udp_wire::UdpWire;

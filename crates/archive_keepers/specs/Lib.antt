@@ -1,3 +1,4 @@
 pub mod Names
 pub mod Limited
 pub mod Readable
+pub mod Replaced

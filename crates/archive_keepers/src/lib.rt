@@ -15,6 +15,7 @@ mod limited;
 mod names;
 mod no_keeper;
 mod readable;
+mod replaced;
 mod served_keeper;
 mod stopping;
 
@@ -24,4 +25,5 @@ pub use limited::Limited;
 pub use names::{draft_name, kept_name};
 pub use no_keeper::NoKeeper;
 pub use readable::Readable;
+pub use replaced::Replaced;
 pub use served_keeper::ServedKeeper;

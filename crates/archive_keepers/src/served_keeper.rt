@@ -6,19 +6,23 @@ use crate::folder_keeper::FolderKeeper;
 use crate::limited::Limited;
 use crate::no_keeper::NoKeeper;
 use crate::readable::Readable;
+use crate::replaced::Replaced;
 use archive_table::Keeper;
 use folders::Folder;
 use std::io;
 
 /// A keeper that a server can serve with, which reports when that has to end.
 pub trait ServedKeeper: Keeper {
-    /// Whether the outcome of every call of `keep` so far is known.
+    /// Whether the outcome of every call of `keep` so far is known, and nothing was replaced.
     ghost usable: { Self → Bool };
 
-    /// Whether the outcome of every call of `keep` so far is known. Otherwise a restart may load the new collection or the
-    /// last one, so the server has to end.
+    /// Whether the outcome of every call of `keep` so far is known, and nothing was replaced. Otherwise a restart may load
+    /// another collection than the last one, so the server has to end.
     fn is_usable(&self) -> bool
         ensures { result ≡ usable self.now };
+
+    /// What was replaced, if that was found out. Then the last call of `keep` kept nothing.
+    fn replaced(&self) -> Option<Replaced>;
 
     /// How many collections it refused for the solutions in them, saturating.
     fn unreadable(&self) -> u64;
@@ -32,6 +36,10 @@ impl ServedKeeper for NoKeeper {
 
     fn is_usable(&self) -> bool {
         true
+    }
+
+    fn replaced(&self) -> Option<Replaced> {
+        None
     }
 
     fn unreadable(&self) -> u64 {
@@ -50,6 +58,10 @@ impl<F: Folder> ServedKeeper for FolderKeeper<F> {
         FolderKeeper::is_usable(self)
     }
 
+    fn replaced(&self) -> Option<Replaced> {
+        None
+    }
+
     fn unreadable(&self) -> u64 {
         0
     }
@@ -66,6 +78,10 @@ impl<K: ServedKeeper> ServedKeeper for Limited<K> {
         self.keeper().is_usable()
     }
 
+    fn replaced(&self) -> Option<Replaced> {
+        self.keeper().replaced()
+    }
+
     fn unreadable(&self) -> u64 {
         self.keeper().unreadable()
     }
@@ -80,6 +96,10 @@ impl<K: ServedKeeper> ServedKeeper for Readable<K> {
 
     fn is_usable(&self) -> bool {
         self.keeper().is_usable()
+    }
+
+    fn replaced(&self) -> Option<Replaced> {
+        self.keeper().replaced()
     }
 
     fn unreadable(&self) -> u64 {
