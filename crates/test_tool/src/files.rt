@@ -5,13 +5,14 @@ use crate::streams::*;
 use std::io;
 use std::test::Fail;
 use test_samples::{EMPTY_LYNX, HUNDRED};
-use tws_file::{FileFault, Ruleset};
-use tws_tool::{INPUT_READS, ToolFault, run_best, run_show};
+use tws_file::{FileFault, Key, Ruleset};
+use tws_tool::{INPUT_READS, ToolFault, run_best, run_show, run_without};
 
 // The result of `best` for these inputs, and how many bytes it writes.
 fn best_of<R: io::Read>(rt: &HostRuntime, files: &mut [R]) -> (Result<(), ToolFault>, usize) {
     let mut out = Vec::new(rt.alloc());
-    let done = run_best(rt.alloc(), Ruleset::Lynx, files, &mut out);
+    let mut errors: Vec<u8> = Vec::new(rt.alloc());
+    let done = run_best(rt.alloc(), Ruleset::Lynx, &[], files, &mut out, &mut errors);
     (done, out.len())
 }
 
@@ -42,6 +43,24 @@ fn show_to_a_writer_with_little_room(rt: HostRuntime) {
             (Err(ToolFault::Write), listing.get(..j))
         );
     }
+}
+
+// Nothing is written where there is no room for what is to be said.
+#[test]
+fn without_to_a_terminal_with_little_room(rt: HostRuntime) {
+    let key = Key {
+        number: 1,
+        password: *b"BDHP",
+    };
+    let mut out = Vec::new(rt.alloc());
+    let mut room = [0u8; 20];
+    let mut errors = room.as_mut_slice();
+    let mut input = UNSOLVED.as_slice();
+    let done = run_without(rt.alloc(), key, &mut input, &mut out, &mut errors);
+    assert_eq!(rt;
+        (done, out.len(), room.as_slice()),
+        (Err(ToolFault::Write), 0, b"tws: no solution of ".as_slice())
+    );
 }
 
 // Eight bytes that do not begin a file: the signature is wrong.

@@ -41,9 +41,9 @@ asks_for_pack names program = (refl, (_, refl, (refl, record { source_is = refl;
 
 -- `tws serve`, with the default port, turns, transfers of one host and limit, at every address, no folder, no log and no
 -- history
-pub asks_for_serve : (names : RulesetNames) (program : Text) → AsksIn AsksFor (tws_app names) (program ∷ codes "serve" ∷ []) (Serve (record { port = 6969; turns = 1000000000; per_host = 32; limit = 33553919; address = None; put_from = None; ports = None; dir = None; any_solution = false; log = false; history = None }))
+pub asks_for_serve : (names : RulesetNames) (program : Text) → AsksIn AsksFor (tws_app names) (program ∷ codes "serve" ∷ []) (Serve (record { port = 6969; turns = 1000000000; per_host = 32; limit = 33553919; address = None; put_from = None; ports = None; dir = None; any_solution = false; log = false; history = None; history_limit = 10000000000 }))
 unfolding clap_on_literals
-asks_for_serve names program = (refl, (_, refl, (refl, record { port_is = refl; turns_are = refl; per_host_is = refl; limit_is = refl; address_is = refl; put_from_is = refl; ports_are = tt; dir_is = refl; any_is = ((λ e. absurd cc), (λ e. refl), (λ e. refl)); log_is = ((λ e. absurd cc), (λ e. refl), (λ e. refl)); history_is = refl })))
+asks_for_serve names program = (refl, (_, refl, (refl, record { port_is = refl; turns_are = refl; per_host_is = refl; limit_is = refl; address_is = refl; put_from_is = refl; ports_are = tt; dir_is = refl; any_is = ((λ e. absurd cc), (λ e. refl), (λ e. refl)); log_is = ((λ e. absurd cc), (λ e. refl), (λ e. refl)); history_is = refl; history_limit_is = refl })))
 
 -- a number of digits only
 pub counted_number : (most n : ℕ) (text : Text) → IsNumeral 10 (without_leading_plus text) → n ≡ digits_value 10 (without_leading_plus text) → 1 ≤ n → n ≤ most → IsNumberUpTo most text n
@@ -52,7 +52,7 @@ counted_number most n text numeral value least greatest = record { numeral = num
 -- `tws serve --port 80 --turns=5`
 pub asks_for_counted : (names : RulesetNames) (program : Text) →
     AsksIn AsksFor (tws_app names) (program ∷ codes "serve" ∷ codes "--port" ∷ codes "80" ∷ codes "--turns=5" ∷ [])
-    (Serve (record { port = 80; turns = 5; per_host = 32; limit = 33553919; address = None; put_from = None; ports = None; dir = None; any_solution = false; log = false; history = None }))
+    (Serve (record { port = 80; turns = 5; per_host = 32; limit = 33553919; address = None; put_from = None; ports = None; dir = None; any_solution = false; log = false; history = None; history_limit = 10000000000 }))
 unfolding clap_on_literals
 asks_for_counted names program = (
   refl,
@@ -73,6 +73,7 @@ asks_for_counted names program = (
         any_is = ((λ e. absurd cc), (λ e. refl), (λ e. refl));
         log_is = ((λ e. absurd cc), (λ e. refl), (λ e. refl));
         history_is = refl;
+        history_limit_is = refl;
       },
     ),
   ),

@@ -7,26 +7,14 @@ use Rattle.tws_tool.specs.declared.job.Job.{Job}
 use Rattle.tws_tool.specs.declared.job.Job.TheVariants as job
 use Rattle.command_line.specs.declared.job_fault.JobFault.{JobFault}
 use Rattle.command_line.specs.Arguments.{RulesetNames}
-use Rattle.command_line.specs.CommandLine.{top_app}
 use Rattle.command_line.specs.Help.{NoJobRan}
-use Rattle.show_commands.specs.Show.{show_app}
-use Rattle.show_commands.specs.Pack.{pack_app}
-use Rattle.file_commands.specs.FileJobs.{AsksForFileJob, FileJobRuns}
-use Rattle.file_commands.specs.Without.{without_app}
-use Rattle.file_commands.specs.Best.{best_app}
-use Rattle.file_commands.specs.Compare.{compare_app}
-use Rattle.file_commands.specs.Page.{page_app}
+use Rattle.file_commands.specs.FileJobs.{AsksForFileJob, FileJobRuns, FileJobSaid, files_app}
 use Rattle.archive_commands.specs.Serve.{AsksToServe, ServeRan, serve_app, serve_name}
 use Rattle.archive_commands.specs.Put.{AsksToPut, put_app, put_name}
 use Rattle.archive_commands.specs.PutRan.{PutRan}
 use Rattle.archive_commands.specs.Get.{AsksToGet, GetRan, get_app, get_name}
 use Rattle.archive_commands.specs.Sync.{AsksToSync, SyncRan, sync_app, sync_name}
 use Rattle.archive_commands.specs.Known.{Known}
-
--- with only the commands on files
-abbrev pub files_app : RulesetNames → App
-files_app names =
-    with_subcommand (with_subcommand (with_subcommand (with_subcommand (with_subcommand (with_subcommand top_app show_app.top) pack_app.top) without_app.top) (best_app names).top) compare_app.top) page_app.top
 
 abbrev pub tws_app : RulesetNames → App
 tws_app names = with_subcommand (with_subcommand (with_subcommand (with_subcommand (files_app names) serve_app.top) put_app.top) (get_app names).top) sync_app.top
@@ -52,3 +40,13 @@ JobRuns to_terminal known now Unread Unwritten first (Ok (job.Put arguments)) st
 JobRuns to_terminal known now Unread Unwritten first (Ok (job.Get arguments)) status had left old new = Unread × ((after : Option (List Entry)) × GetRan known arguments status first after now old new)
 JobRuns to_terminal known now Unread Unwritten first (Ok (job.Sync arguments)) status had left old new = (now ≡ known.bytes_of) × Unread × ((after : Option (List Entry)) × SyncRan known.host_of arguments status first after old new)
 JobRuns to_terminal known now Unread Unwritten first (Err why) status had left old new = (now ≡ known.bytes_of) × Unread × NoJobRan why status old new
+
+-- What a job said on standard error at status 0, given what is known of files and of standard input, and what holds if it said
+-- nothing: what standard error had before, and has. The lines of a log, or about a terminal, go elsewhere.
+abbrev pub JobSaid : (known : Known) → (given : Option (List ℕ)) → (Silent : Type 0) → Result Job JobFault → (old new : Option (List ℕ)) → Type 0
+JobSaid known given Silent (Ok (job.Files files)) old new = FileJobSaid known.bytes_of given Silent files old new
+JobSaid known given Silent (Ok (job.Serve arguments)) old new = Silent
+JobSaid known given Silent (Ok (job.Put arguments)) old new = Silent
+JobSaid known given Silent (Ok (job.Get arguments)) old new = Silent
+JobSaid known given Silent (Ok (job.Sync arguments)) old new = Silent
+JobSaid known given Silent (Err why) old new = Silent

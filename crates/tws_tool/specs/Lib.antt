@@ -1,2 +1,3 @@
 pub mod Jobs
 pub mod CommandLine
+pub mod Visible

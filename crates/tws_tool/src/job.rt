@@ -4,7 +4,7 @@ ghost use Rattle.std.specs.Prelude.{◌≡◌, ◌≤◌, Ok, IfOk};
 ghost use Rattle.clap.specs.Matches.{found_of};
 ghost use Rattle.clap.specs.Words.{app_of, rows_of};
 ghost use Rattle.command_line.specs.Arguments.{Answers};
-ghost use Rattle.tws_tool.specs.Jobs.{AsksFor, JobRuns, files_app, tws_app};
+ghost use Rattle.tws_tool.specs.Jobs.{AsksFor, JobRuns, JobSaid, tws_app};
 
 use crate::serving;
 use archive_commands::{
@@ -12,9 +12,8 @@ use archive_commands::{
     sync,
 };
 use clap::{ArgMatches, Command};
-use command_line::{add_command, new_program};
-use file_commands::{FileJob, best, compare, file_job_of, page, run_file_job, without};
-use show_commands::{pack, show};
+use command_line::add_command;
+use file_commands::{FileJob, file_job_of, file_program, run_file_job};
 use std::alloc::{AllocError, Global};
 use std::fs::File;
 use std::io::{Read, Write};
@@ -39,23 +38,11 @@ pub enum Job {
     Sync(SyncArguments),
 }
 
-// The commands on files, in the order of the help.
-fn file_commands<'a>(alloc: Global, names: &'a [&'a str]) -> Result<Command<'a>, AllocError>
-    ensures { IfOk result (λ command. app_of command ≡ files_app names.entry) }
-{
-    let program = add_command(Ok(new_program(alloc)), show::command(alloc));
-    let program = add_command(program, pack::command(alloc));
-    let program = add_command(program, without::command(alloc));
-    let program = add_command(program, best::command(alloc, names));
-    let program = add_command(program, compare::command(alloc));
-    add_command(program, page::command(alloc))
-}
-
 /// The command line of the program, with these names of the rulesets.
 pub(crate) fn command<'a>(alloc: Global, names: &'a [&'a str]) -> Result<Command<'a>, AllocError>
     ensures { IfOk result (λ command. app_of command ≡ tws_app names.entry) }
 {
-    let program = add_command(file_commands(alloc, names), serve::command(alloc));
+    let program = add_command(file_program(alloc, names), serve::command(alloc));
     let program = add_command(program, put::command(alloc));
     let program = add_command(program, get::command(alloc, names));
     add_command(program, sync::command(alloc))
@@ -105,7 +92,7 @@ pub(crate) fn run_job<
     ensures usage { result ≡ 1 → (input.new ≡ input.old) × (out.new ≡ out.old) }
     ensures status { result ≤ 4 }
     ensures unreadable { result ≡ 3 → out.new ≡ out.old }
-    ensures silent { result ≡ 0 → errors.new ≡ errors.old }
+    ensures said { result ≡ 0 → JobSaid (record { bytes_of = S.bytes_of system.old; drafted_of = S.drafted_of system.old; host_of = S.host_of system.old }) (R.remaining input.old) (errors.new ≡ errors.old) (Ok job.now) (E.contents errors.old) (E.contents errors.new) }
 {
     match job {
         Job::Files(files) => { run_file_job(system, alloc, files, to_terminal, input, out, errors) }

@@ -15,8 +15,8 @@ pub fn words_of_commands()
     ensures moves { (arguments : ShowArguments) → ListsInput true false arguments → AskFor (codes "show" ∷ codes "--moves" ∷ []) (Files (Show arguments)) }
     ensures csv { (arguments : ShowArguments) → ListsInput false true arguments → AskFor (codes "show" ∷ codes "--csv" ∷ []) (Files (Show arguments)) }
     ensures pack { AskFor (codes "pack" ∷ codes "-" ∷ []) (Files (Pack (record { source = Standard; output = None }))) }
-    ensures serve { AskFor (codes "serve" ∷ []) (Serve (record { port = 6969; turns = 1000000000; per_host = 32; limit = 33553919; address = None; put_from = None; ports = None; dir = None; any_solution = false; log = false; history = None })) }
-    ensures counted { AskFor (codes "serve" ∷ codes "--port" ∷ codes "80" ∷ codes "--turns=5" ∷ []) (Serve (record { port = 80; turns = 5; per_host = 32; limit = 33553919; address = None; put_from = None; ports = None; dir = None; any_solution = false; log = false; history = None })) }
+    ensures serve { AskFor (codes "serve" ∷ []) (Serve (record { port = 6969; turns = 1000000000; per_host = 32; limit = 33553919; address = None; put_from = None; ports = None; dir = None; any_solution = false; log = false; history = None; history_limit = 10000000000 })) }
+    ensures counted { AskFor (codes "serve" ∷ codes "--port" ∷ codes "80" ∷ codes "--turns=5" ∷ []) (Serve (record { port = 80; turns = 5; per_host = 32; limit = 33553919; address = None; put_from = None; ports = None; dir = None; any_solution = false; log = false; history = None; history_limit = 10000000000 })) }
     ensures version { AskWhy (codes "--version" ∷ []) DisplayVersion }
     ensures short { AskWhy (codes "-V" ∷ []) DisplayVersion }
 {}

@@ -6,10 +6,12 @@
 mod client_network;
 mod job;
 mod laws;
+mod process;
 mod program;
 mod refusal_wire;
 mod served_folder;
 mod serving;
+mod visible_errors;
 mod words;
 
 pub use archive_commands::{
@@ -31,9 +33,11 @@ pub use file_commands::{
 };
 pub use job::Job;
 pub use laws::words_of_commands;
+pub use process::run_process;
 pub use program::{run_words, run_words_with};
 pub use show_commands::{
     AnnouncedInput, PackArguments, ShowArguments, run_csv, run_pack, run_show,
 };
 pub use system_files::{FileSystem, System, WithLastError};
+pub use visible_errors::VisibleErrors;
 pub use words::job_of;

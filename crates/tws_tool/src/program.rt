@@ -3,7 +3,7 @@
 ghost use Rattle.std.specs.Prelude.{◌≡◌, ◌⊎◌, ◌≤◌, None, Result, map, string_bytes};
 ghost use Rattle.tws_tool.specs.declared.job.Job.{Job};
 ghost use Rattle.command_line.specs.declared.job_fault.JobFault.{JobFault};
-ghost use Rattle.tws_tool.specs.Jobs.{JobRuns};
+ghost use Rattle.tws_tool.specs.Jobs.{JobRuns, JobSaid};
 ghost use Rattle.tws_tool.specs.CommandLine.{AnswersWords};
 
 use crate::client_network::ClientNetwork;
@@ -43,7 +43,7 @@ fn run_answer<
     ensures usage { result ≡ 1 → (input.new ≡ input.old) × (out.new ≡ out.old) }
     ensures status { result ≤ 4 }
     ensures unreadable { result ≡ 3 → out.new ≡ out.old }
-    ensures silent { result ≡ 0 → errors.new ≡ errors.old }
+    ensures said { result ≡ 0 → JobSaid (record { bytes_of = S.bytes_of system.old; drafted_of = S.drafted_of system.old; host_of = S.host_of system.old }) (R.remaining input.old) (errors.new ≡ errors.old) job.now (E.contents errors.old) (E.contents errors.new) }
 {
     match job {
         Ok(job) => run_job(
@@ -66,7 +66,7 @@ fn run_answer<
 /// `system` are read and replaced, and `put`, `get` and `sync` go over a wire of `network` to the hosts that `system` finds; the
 /// folder and the sockets of `serve` are the runtime's.
 ///
-/// A fault goes to `errors`, on one line or two. The status is 0 if all was done, and for help, whose text goes to `out`; 1 for
+/// A fault goes to `errors`, on one line or two, and before it, or at status 0 alone, what the job says (`JobSaid`). The status is 0 if all was done, and for help, whose text goes to `out`; 1 for
 /// a usage error, a bad address, or archives without a level in common; 2 if reading, writing, a socket or memory failed; 3 for an unreadable solution file;
 /// 4 for a failed transfer.
 pub fn run_words_with<
@@ -88,12 +88,11 @@ pub fn run_words_with<
     errors: &mut E,
 ) -> u8
     // The job is the one that the arguments ask for, with the files that they name.
-    ensures ran { (job : Result Job JobFault) × AnswersWords (map string_bytes words.now) job × JobRuns to_terminal (record { bytes_of = S.bytes_of system.old; drafted_of = S.drafted_of system.old; host_of = S.host_of system.old }) (S.bytes_of system.new) (input.new ≡ input.old) (out.new ≡ out.old) (N.first_calls network.old) job result (R.remaining input.old) (R.remaining input.new) (W.contents out.old) (W.contents out.new) }
+    ensures ran { (job : Result Job JobFault) × AnswersWords (map string_bytes words.now) job × JobRuns to_terminal (record { bytes_of = S.bytes_of system.old; drafted_of = S.drafted_of system.old; host_of = S.host_of system.old }) (S.bytes_of system.new) (input.new ≡ input.old) (out.new ≡ out.old) (N.first_calls network.old) job result (R.remaining input.old) (R.remaining input.new) (W.contents out.old) (W.contents out.new) × (result ≡ 0 → JobSaid (record { bytes_of = S.bytes_of system.old; drafted_of = S.drafted_of system.old; host_of = S.host_of system.old }) (R.remaining input.old) (errors.new ≡ errors.old) job (E.contents errors.old) (E.contents errors.new)) }
     // A usage error leaves input and output untouched, and an unreadable file the output.
     ensures usage { result ≡ 1 → (input.new ≡ input.old) × (out.new ≡ out.old) }
     ensures status { result ≤ 4 }
     ensures unreadable { result ≡ 3 → out.new ≡ out.old }
-    ensures silent { result ≡ 0 → errors.new ≡ errors.old }
 {
     run_answer(
         system,
@@ -126,11 +125,10 @@ pub fn run_words<
     out: &mut W,
     errors: &mut E,
 ) -> u8
-    ensures ran { (job : Result Job JobFault) × AnswersWords (map string_bytes words.now) job × JobRuns to_terminal (record { bytes_of = λ name. None; drafted_of = λ name. None; host_of = λ name. None }) (λ name. None) (input.new ≡ input.old) (out.new ≡ out.old) None job result (R.remaining input.old) (R.remaining input.new) (W.contents out.old) (W.contents out.new) }
+    ensures ran { (job : Result Job JobFault) × AnswersWords (map string_bytes words.now) job × JobRuns to_terminal (record { bytes_of = λ name. None; drafted_of = λ name. None; host_of = λ name. None }) (λ name. None) (input.new ≡ input.old) (out.new ≡ out.old) None job result (R.remaining input.old) (R.remaining input.new) (W.contents out.old) (W.contents out.new) × (result ≡ 0 → JobSaid (record { bytes_of = λ name. None; drafted_of = λ name. None; host_of = λ name. None }) (R.remaining input.old) (errors.new ≡ errors.old) job (E.contents errors.old) (E.contents errors.new)) }
     ensures usage { result ≡ 1 → (input.new ≡ input.old) × (out.new ≡ out.old) }
     ensures status { result ≤ 4 }
     ensures unreadable { result ≡ 3 → out.new ≡ out.old }
-    ensures silent { result ≡ 0 → errors.new ≡ errors.old }
 {
     let network = &mut ClientNetwork::new(*rt, terminal);
     run_words_with(

@@ -15,16 +15,14 @@ use tftp_packet::{Endpoint, Out, Packet, decode};
 // How many bytes of a refusal are kept.
 const REFUSAL: usize = 128;
 
-/// A wire over ports of the system that notes the text of the last ERROR that is received and how far the last transfer came,
-/// and closes a port once the next one is open: else what still arrives there would keep a later transfer from its wait. In
-/// all else it is the wire below.
+/// A wire over ports of the system that notes the text of the last ERROR that is received, and how far the last transfer came
+/// by what is sent, and closes a port once the next one is open: else what still arrives there would keep a later transfer from
+/// its wait. In all else it is the wire below.
 #[derive(Drop)]
 pub(crate) struct RefusalWire<P: Net + Clock + RandomSource + AllocGlobal + Copy> {
     wire: UdpWire<P>,
     refusal: ArrayVec<u8, REFUSAL>,
     port: Option<u16>,
-    // The length of the file that is to be sent, if it is known.
-    length: Option<u64>,
     // What is known of the transfer at this port, once it has asked.
     reached: Option<Reached>,
 }
@@ -37,7 +35,6 @@ impl<P: Net + Clock + RandomSource + AllocGlobal + Copy> RefusalWire<P> {
             wire,
             refusal: ArrayVec::new(),
             port: None,
-            length: None,
             reached: None,
         }
     }
@@ -85,19 +82,18 @@ impl<P: Net + Clock + RandomSource + AllocGlobal + Copy> Wire for RefusalWire<P>
     ) -> Result<Option<(usize, Endpoint)>, WireFault> {
         let got = self.wire.receive(port, buffer);
         if let Ok(Some((count, _))) = &got {
-            let bytes = &buffer[..*count];
-            note(&mut self.refusal, bytes);
-            if let Some(reached) = &mut self.reached {
-                reached.note(bytes);
-            }
+            note(&mut self.refusal, &buffer[..*count]);
         }
         got
     }
 
     fn send(&mut self, out: &Out) -> Result<(), WireFault> {
-        if self.reached.is_none() {
-            self.reached = Some(Reached::asking(out.to, self.length));
-        }
+        let mut reached = match self.reached {
+            Some(reached) => reached,
+            None => Reached::asking(out.to),
+        };
+        reached.note(out.dgram.bytes());
+        self.reached = Some(reached);
         self.wire.send(out)
     }
 
@@ -125,9 +121,8 @@ impl<P: Net + Clock + RandomSource + AllocGlobal + Copy> TransferWire for Refusa
         self.reached
     }
 
-    fn begin(&mut self, length: Option<u64>) {
-        self.length = length;
-    }
+    // A transfer begins with its port.
+    fn begin(&mut self, _length: Option<u64>) {}
 
     fn finish(&mut self) {}
 }

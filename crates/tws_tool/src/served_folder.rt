@@ -2,15 +2,17 @@
 
 ghost use Rattle.std.specs.Prelude.{◌≡◌, IfSome};
 
-use archive_host::{DirKeeper, HostFolder, OpenFault};
+use archive_host::{DirKeeper, OpenFault};
 use archive_keepers::ServedKeeper;
 use command_line::{FAILED, report_cause};
+use file_commands::ruleset_line;
 use std::alloc::Global;
 use std::fs::File;
 use std::io;
 use std::io::Write;
 use std::path::Path;
 use std::rt::Files;
+use std::time::Clock;
 use tws_file::{InWords, Ruleset};
 use tws_reader::read_file;
 
@@ -40,21 +42,20 @@ fn not_writable<E: Write>(cause: Option<io::Error>, name: &str, errors: &mut E) 
 
 /// A keeper over the folder of this name, without the drafts that were left there. `None` if nothing can be kept there,
 /// which is reported.
-pub(crate) fn keeper_of<P: Files<File = File> + AllocGlobal + Copy, E: Write>(
+pub(crate) fn keeper_of<P: Files<File = File> + Clock + AllocGlobal + Copy, E: Write>(
     rt: P,
     name: &str,
     errors: &mut E,
 ) -> Option<DirKeeper<P>>
     ensures silent { IfSome result (λ _. errors.new ≡ errors.old) }
 {
-    let folder = match HostFolder::open(rt, name) {
-        Ok(folder) => folder,
+    let mut keeper = match DirKeeper::open(rt, name) {
+        Ok(keeper) => keeper,
         Err(fault) => {
             not_opened(fault, name, errors);
             return None;
         }
     };
-    let mut keeper = DirKeeper::new(folder);
     if keeper.clear_drafts().is_err() {
         not_writable(keeper.last_error(), name, errors);
         return None;
@@ -73,8 +74,9 @@ fn report_text<E: Write>(
     match read_file(alloc, bytes) {
         Ok(file) => {
             if file.ruleset != ruleset {
-                let other = file.ruleset;
-                let _ = writeln!(errors, "tws: {path}: the file is of the ruleset {other}");
+                if let Ok(line) = ruleset_line(alloc, path, file.ruleset) {
+                    let _ = write!(errors, "{line}");
+                }
             }
         }
         Err(fault) => {

@@ -1,6 +1,6 @@
 //! The command `serve` over the system: its folder, its port, its log and its history.
 
-ghost use Rattle.std.specs.Prelude.{◌≡◌, ◌≤◌, List, [], min, unwrap_or, Some, None, IfSome, option_map, string_bytes};
+ghost use Rattle.std.specs.Prelude.{◌≡◌, ◌≤◌, Bool, List, [], min, unwrap_or, Some, None, IfSome, option_map, string_bytes};
 ghost use Rattle.tftp_ends.specs.declared.limits.TheConstants.{MAX_FILE};
 ghost use Rattle.archive_keepers.specs.Limited.{own_calls};
 ghost use Rattle.archive_keepers.specs.Readable.{no_counts};
@@ -9,17 +9,19 @@ ghost use Rattle.archive_server.specs.Turn.{fresh_server, open_policies};
 ghost use Rattle.archive_commands.specs.Serve.{HasPolicies, ServeRan, Served, ServedFrom};
 
 use crate::served_folder::{keeper_of, report_unloaded};
-use archive_commands::{ServeArguments, Service, bad_address};
-use archive_host::{DirKeeper, HostFolder, UdpWire};
+use archive_commands::{ServeArguments, Service, TURNS, bad_address};
+use archive_host::{DirKeeper, HistoryRoom, HostFolder, RecordingKeeper, UdpWire};
 use archive_keepers::{NoKeeper, Readable, ServedKeeper};
 use archive_log::{ReportingKeeper, ServerLog};
+use archive_pace::{PacedWire, SparingWire};
 use archive_server::{Policies, Server, ServerObserver};
 use archive_table::{Keeper, NoObserver};
+use archive_wire::ReadyWire;
 use arrayvec::ArrayString;
 use command_line::{FAILED, ToolFault, report, report_cause};
 use folders::{Folder, clear_draft};
 use log::sink::Console;
-use std::alloc::Global;
+use std::alloc::{AllocError, Global};
 use std::fmt::Write as _;
 use std::fs::File;
 use std::io;
@@ -70,8 +72,19 @@ fn console<P: Eprint + Copy>(rt: P, is_logged: bool) -> Option<Console<P>> {
     if is_logged { Some(Console(rt)) } else { None }
 }
 
+// Opens the folder of a history of at most so many bytes.
+fn open_history<P: Files<File = File> + Clock + AllocGlobal + Copy>(
+    rt: P,
+    dir: &str,
+    limit: u64,
+) -> io::Result<HostFolder<P>> {
+    let mut history = HostFolder::open_unlocked(rt, dir)?;
+    history.set_room(HistoryRoom::new(rt, dir, limit)?);
+    Ok(history)
+}
+
 // The history that was asked for, if one was. `None` if its folder cannot be opened or written, which is reported.
-fn history_of<P: Files<File = File> + AllocGlobal + Copy, E: Write>(
+fn history_of<P: Files<File = File> + Clock + AllocGlobal + Copy, E: Write>(
     rt: P,
     arguments: &ServeArguments,
     errors: &mut E,
@@ -81,7 +94,7 @@ fn history_of<P: Files<File = File> + AllocGlobal + Copy, E: Write>(
     let Some(dir) = &arguments.history else {
         return Some(None);
     };
-    let mut history = match HostFolder::open_unlocked(rt, dir.as_str()) {
+    let mut history = match open_history(rt, dir.as_str(), arguments.history_limit) {
         Ok(history) => history,
         Err(cause) => {
             no_history(&cause, dir.as_str(), errors);
@@ -119,6 +132,50 @@ impl<'a, P: Files<File = File> + Net + Clock + RandomSource + Eprint + AllocGlob
         Ok(wire)
     }
 
+    // The wire for rounds: it paces what is kept, and spares peers that were never heard.
+    fn policed(&self, wire: UdpWire<P>) -> PacedWire<SparingWire<UdpWire<P>>, P> {
+        PacedWire::new(
+            self.alloc,
+            SparingWire::new(wire),
+            self.rt,
+            self.arguments.port,
+        )
+    }
+
+    // Serves over a wire with this server, keeper and observer, and returns the status.
+    fn serve_over<
+        N: ReadyWire,
+        K: ServedKeeper + Drop,
+        O: ServerObserver + Drop,
+        W: Write,
+        E: Write,
+    >(
+        &self,
+        wire: &mut N,
+        server: Server,
+        keeper: ReportingKeeper<K, P, Option<Console<P>>>,
+        observer: O,
+        out: &mut W,
+        errors: &mut E,
+    ) -> u8
+        requires fresh { server ≡ fresh_server open_policies server.table }
+        requires port { server.table.request ≡ self.now.arguments.now.port }
+        // What is longer is refused by such a keeper.
+        requires limit { keeper.keeper.limit ≡ min self.now.arguments.now.limit MAX_FILE }
+        ensures served { (last : K) × (entries : List Keeping) × Served self.now.arguments.now.port self.now.arguments.now.turns self.now.policies server.table result (K.usable last) (N.calls wire.old) (N.calls wire.new) (own_calls (K.calls keeper.keeper.keeper) keeper.keeper.entries) (own_calls (K.calls last) entries) (W.contents out.old) (W.contents out.new) }
+        ensures silent { result ≡ 0 → errors.new ≡ errors.old }
+    {
+        Service::new(
+            self.arguments,
+            self.host,
+            self.policies,
+            server,
+            keeper,
+            observer,
+        )
+        .run(self.alloc, wire, out, errors)
+    }
+
     // Serves with this server, keeper and observer, and returns the status.
     fn serve_observed<K: ServedKeeper + Drop, O: ServerObserver + Drop, W: Write, E: Write>(
         &self,
@@ -135,17 +192,25 @@ impl<'a, P: Files<File = File> + Net + Clock + RandomSource + Eprint + AllocGlob
         ensures served { (last : K) × (entries : List Keeping) × Served self.now.arguments.now.port self.now.arguments.now.turns self.now.policies server.table result (K.usable last) None None (own_calls (K.calls keeper.keeper.keeper) keeper.keeper.entries) (own_calls (K.calls last) entries) (W.contents out.old) (W.contents out.new) }
         ensures silent { result ≡ 0 → errors.new ≡ errors.old }
     {
-        match self.listen() {
-            Ok(mut wire) => Service::new(
-                self.arguments,
-                self.host,
-                self.policies,
-                server,
-                keeper,
-                observer,
-            )
-            .run(self.alloc, &mut wire, out, errors),
-            Err(cause) => no_port(self.arguments.port, &cause, errors),
+        let mut wire = match self.listen() {
+            Ok(wire) => wire,
+            Err(cause) => return no_port(self.arguments.port, &cause, errors),
+        };
+        if self.arguments.turns < TURNS {
+            return self.serve_over(&mut wire, server, keeper, observer, out, errors);
+        }
+        let mut wire = self.policed(wire);
+        self.serve_over(&mut wire, server, keeper, observer, out, errors)
+    }
+
+    // The room of the history that was asked for, if one was.
+    fn room(&self) -> Result<Option<HistoryRoom<P>>, AllocError> {
+        match &self.arguments.history {
+            Some(dir) => {
+                let limit = self.arguments.history_limit;
+                Ok(Some(HistoryRoom::new(self.rt, dir.as_str(), limit)?))
+            }
+            None => Ok(None),
         }
     }
 
@@ -159,11 +224,15 @@ impl<'a, P: Files<File = File> + Net + Clock + RandomSource + Eprint + AllocGlob
     ) -> u8
         requires fresh { server ≡ fresh_server open_policies server.table }
         requires port { server.table.request ≡ self.now.arguments.now.port }
-        ensures served { (last : K) × (entries more : List Keeping) × Served self.now.arguments.now.port self.now.arguments.now.turns self.now.policies server.table result (K.usable last) None None (own_calls (K.calls keeper) entries) (own_calls (K.calls last) more) (W.contents out.old) (W.contents out.new) }
+        ensures served { (usable : Bool) × Served self.now.arguments.now.port self.now.arguments.now.turns self.now.policies server.table result usable None None None None (W.contents out.old) (W.contents out.new) }
         ensures silent { result ≡ 0 → errors.new ≡ errors.old }
     {
         let arguments = self.arguments;
+        let Ok(room) = self.room() else {
+            return report(ToolFault::Memory, &[], errors);
+        };
         let log = console(self.rt, arguments.log);
+        let keeper = RecordingKeeper::new(keeper, room);
         let keeper = ReportingKeeper::new(keeper, arguments.limit, self.rt, log);
         if !arguments.log && arguments.history.is_none() {
             return self.serve_observed(server, keeper, NoObserver, out, errors);
@@ -234,7 +303,7 @@ pub(crate) fn run<
 {
     let Some(host) = arguments.host() else {
         let address = arguments.address.as_deref().unwrap_or("");
-        return bad_address(address, "not an IPv4 address", errors);
+        return bad_address(address, "not an IPv4 address that a host can have", errors);
     };
     let Some(policies) = arguments.policies() else {
         let hosts = arguments.put_from.as_deref().unwrap_or("");

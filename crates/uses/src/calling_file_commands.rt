@@ -15,6 +15,7 @@ pub fn mended(alloc: Global, level: Key, bytes: &[u8]) -> Result<Vec<u8>, ToolFa
 {
     let mut input = bytes;
     let mut out = Vec::new(alloc);
-    run_without(alloc, level, &mut input, &mut out)?;
+    let mut said: Vec<u8> = Vec::new(alloc);
+    run_without(alloc, level, &mut input, &mut out, &mut said)?;
     Ok(out)
 }

@@ -9,6 +9,7 @@ pub mod calling_archive_host;
 pub mod calling_archive_keepers;
 pub mod calling_archive_log;
 pub mod calling_archive_memory;
+pub mod calling_archive_pace;
 pub mod calling_archive_progress;
 pub mod calling_archive_runs;
 pub mod calling_archive_server;
