@@ -37,13 +37,26 @@ const isReady = new Promise((resolve) => {
   };
 });
 
+// The worker keeps each file that it was sent, as a copy of a large one takes time, until the page has no use for it.
+const numbers = new WeakMap();
+let lastNumber = 0;
+const forgotten = new FinalizationRegistry((number) => worker.postMessage({ forgotten: number }));
+
+/** The number by which the worker knows a file, and its bytes at the first time. @param {Uint8Array} bytes */
+function sent(bytes) {
+  if (numbers.has(bytes)) return { number: numbers.get(bytes) };
+  numbers.set(bytes, ++lastNumber);
+  forgotten.register(bytes, lastNumber);
+  return { number: lastNumber, bytes };
+}
+
 /** Calls a function of the module, while the page stays alive. @param {string} name @param {Uint8Array[]} inputs */
 async function call(name, inputs) {
   await isReady;
   byId("working").hidden = false;
   const data = await new Promise((resolve) => {
     calls.set(++lastCall, resolve);
-    worker.postMessage({ id: lastCall, name, files: inputs });
+    worker.postMessage({ id: lastCall, name, files: inputs.map(sent) });
   });
   if (data.why) throw new Error(data.why);
   return data.answer;
@@ -338,6 +351,20 @@ function draw() {
   compare();
 }
 
+/** The name, with a number if another file has it already. @param {string} name */
+function unusedName(name) {
+  const isUsed = (other) => files.some((file) => file.name === other && !file.archive);
+  let unused = name;
+  for (let number = 2; isUsed(unused); number++) unused = name.replace(/(\.[^.]*)?$/, ` (${number})$1`);
+  return unused;
+}
+
+/** Whether some level of the list is solved in a file, or no file has a solution. @param {Level[]} list */
+function fits(list) {
+  const known = new Set(list.map(keyOf)), all = readable().flatMap((file) => file.solved);
+  return all.length === 0 || all.some((row) => known.has(keyOf(row)));
+}
+
 /** Reads a file or a list of levels, and returns what is to be said of it. @param {File} one */
 async function addOne(one) {
   const name = shownName(one.name);
@@ -349,11 +376,12 @@ async function addOne(one) {
       return { words: `${name}: no list of levels, with number, password, name and time limit.`, isFault: true };
     }
     levels = found;
-    return { words: `${name}: ${counted(levels.length, "level")}.`, isFault: false };
+    const words = `${name}: ${counted(levels.length, "level")}.`;
+    return fits(found) ? { words, isFault: false } : { words: `${words} No file has solved one of them: are number and password those of the set?`, isFault: true };
   }
-  const file = await read(name, bytes, false);
+  const file = await read(unusedName(name), bytes, false);
   files.push(file);
-  const words = file.solved ? `${name}: ${counted(file.solved.length, "solution")}.` : `${file.fault}.`;
+  const words = file.solved ? `${file.name}: ${counted(file.solved.length, "solution")}.` : `${file.fault}.`;
   return { words, isFault: !file.solved };
 }
 

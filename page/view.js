@@ -49,9 +49,12 @@ function cellText(column, row) {
   return column.shows ? column.shows(row) : String(row[column.key] ?? "");
 }
 
-/** @param {Column} column @param {object} row */
+/** A cell; a name, which may be cut, is its title too. @param {Column} column @param {object} row */
 function cellOf(column, row) {
-  return element("td", cellText(column, row), column.number ? "number" : "");
+  const isName = column.key === "name", text = cellText(column, row);
+  const cell = element("td", text, column.number ? "number" : isName ? "name" : "");
+  if (isName) cell.title = text;
+  return cell;
 }
 
 /**
