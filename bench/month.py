@@ -51,7 +51,7 @@ class Server:
         self.program, self.folder = program, folder
         self.history = os.path.join(folder, "sent")
         os.mkdir(self.history)
-        self.port = 47000
+        self.port = 20500
         self.start()
 
     def start(self):
@@ -264,7 +264,7 @@ class Month:
     def line(self):
         memory, descriptors, sockets = self.server.holds()
         done = TRANSFERS - self.left
-        history = sum(entry.stat().st_size for entry in os.scandir(self.server.history) if entry.is_file())
+        history = sum(os.stat(os.path.join(at, name)).st_size for at, _, names in os.walk(self.server.history) for name in names)
         seconds = time.monotonic() - self.began
         print(f"{done} transfers, {seconds:.0f} s: {memory} kB, {descriptors} descriptors, {sockets} sockets, history {history} bytes; {self.counts}", flush=True)
 

@@ -150,7 +150,7 @@ def answering_at(address, lynx, ms):
 
 
 def one_sync():
-    near, far = Archive("near", "127.0.0.2", 48700), Archive("far", "127.0.0.3", 48800)
+    near, far = Archive("near", "127.0.0.2", 28700), Archive("far", "127.0.0.3", 28800)
     slow = HEADERS["lynx"] + record(1, 100) + record(2, 50)
     fast = HEADERS["lynx"] + record(1, 90)
     far.put(written("slow.tws", slow))
@@ -267,7 +267,7 @@ def agree(archives):
 def three_archives():
     draw = random.Random(SEED)
     files = Files(draw)
-    archives = [Archive(f"three-{k}", f"127.0.0.{k}", 48900 + 30 * k) for k in (2, 3, 4)]
+    archives = [Archive(f"three-{k}", f"127.0.0.{k}", 28900 + 30 * k) for k in (2, 3, 4)]
     ways = []
     for k, archive in enumerate(archives):
         ways.append([(archive.address, archive.port), ("127.0.0.1", proxy(archive, SEED + k)[1])])
@@ -323,7 +323,7 @@ def two_histories():
     if not shutil.which("rsync"):
         return
     files = Files(random.Random(SEED))
-    one, other = Archive("history-1", "127.0.0.2", 49100), Archive("history-2", "127.0.0.3", 49150)
+    one, other = Archive("history-1", "127.0.0.2", 29100), Archive("history-2", "127.0.0.3", 29150)
     with ThreadPoolExecutor(CLIENTS) as clients:
         done = [clients.submit(files.put, *files.draw.choice([(one.address, one.port), (other.address, other.port)])) for _ in range(COPIED)]
         while not all(future.done() for future in done):

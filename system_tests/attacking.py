@@ -11,8 +11,10 @@ import time
 
 PROGRAM, FOLDER = sys.argv[1], sys.argv[2]
 HEADER = bytes.fromhex("35339B9901000000")
-LAST_PORT = [46000]
+LAST_PORT = [26000]
 counts = {True: 0, False: 0}
+# The bounds in seconds that this row has missed.
+late = []
 processes = []
 
 
@@ -20,6 +22,30 @@ def check(name, holds):
     counts[bool(holds)] += 1
     if not holds:
         print(f"check failed: {name}", flush=True)
+
+
+def check_time(name, holds):
+    """Checks a bound in seconds."""
+    check(name, holds)
+    if not holds:
+        late.append(name)
+
+
+def tries(row):
+    """Runs a row. If it misses nothing but bounds in seconds it is run again, twice at most, and the last time counts: other
+    work on the machine can make it miss them, and a server that does not keep them misses them each time."""
+    for left in 2, 1, 0:
+        before = dict(counts)
+        late.clear()
+        try:
+            row()
+        except Exception as fault:
+            check(f"{row.__name__}: {fault!r}", False)
+        missed = counts[False] - before[False]
+        if missed == 0 or missed > len(late) or left == 0:
+            return
+        print(f"{row.__name__} is tried again", flush=True)
+        counts.update(before)
 
 
 def record(level, password=b"BDHP", ticks=100, moves=b""):
@@ -136,17 +162,36 @@ def sockets_of(pid):
     return {int(row[1].split(":")[1], 16) for row in rows if row[9] in inodes}
 
 
-class Flood:
-    """Sends junk to a port from several ends, so many datagrams a second, until it is left."""
+class Attack:
+    """What a thread does with ends of its own, from when it is entered until it is left. Whoever enters it waits for the first
+    so many seconds."""
+
+    def __init__(self, ends, first=0):
+        self.ends, self.first = ends, first
+        self.over = threading.Event()
+        self.thread = threading.Thread(target=self.attack, daemon=True)
+
+    def __enter__(self):
+        self.thread.start()
+        time.sleep(self.first)
+        return self
+
+    def __exit__(self, *_):
+        self.over.set()
+        self.thread.join()
+        for own in self.ends:
+            own.close()
+
+
+class Flood(Attack):
+    """Sends junk to a port from several ends, so many datagrams a second."""
 
     def __init__(self, port, rate, hosts=("127.0.0.2",), ends=50, junk=b"\0\7junk"):
-        self.ends = [end(hosts[k % len(hosts)]) for k in range(ends)]
+        super().__init__([end(hosts[k % len(hosts)]) for k in range(ends)])
         self.port, self.rate, self.junk = port, rate, junk
-        self.over = threading.Event()
         self.sent = 0
-        self.thread = threading.Thread(target=self.flood, daemon=True)
 
-    def flood(self):
+    def attack(self):
         began = time.monotonic()
         while not self.over.is_set():
             while self.sent < (time.monotonic() - began) * self.rate:
@@ -156,16 +201,6 @@ class Flood:
                     pass
                 self.sent += 1
             time.sleep(0.0005)
-
-    def __enter__(self):
-        self.thread.start()
-        return self
-
-    def __exit__(self, *_):
-        self.over.set()
-        self.thread.join()
-        for own in self.ends:
-            own.close()
 
 
 def sent_but_for_the_last(server, text):

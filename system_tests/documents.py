@@ -65,7 +65,8 @@ def read_rust(crate, path):
     """Adds the names of one source file, which `rt fmt` has formatted."""
     owner = function = None
     crate.names.add(path.stem)
-    for line in path.read_text().splitlines():
+    # A long head of an impl has its type on the next line.
+    for line in re.sub(r"(?m)^(impl\b.*)\n +for ", r"\1 for ", path.read_text()).splitlines():
         if match := re.match(r"(?:unsafe )?impl\b.*", line):
             # The type is what comes after `for`, or else after the parameters of the impl.
             target = line.split(" for ")[-1] if " for " in line else re.sub(r"^(unsafe )?impl(<(?:[^<>]|<[^<>]*>)*>)? ", "", line)

@@ -2,58 +2,44 @@
 import os
 import select
 import socket
-import threading
 import time
 
-from attacking import FOLDER, Flood, HEADER, Server, WRQ, check, done, end, file, record, run
+from attacking import Attack, FOLDER, Flood, HEADER, Server, WRQ, check, check_time, done, end, file, record, run
 
 BLOCK = b"\0\3\0\1" + HEADER + bytes(504)
 
 
-class Holder:
-    """Holds a place with each of its ends until it is left: a request, one block, and that block again every 0.9 s. An end whose
+class Holder(Attack):
+    """Holds a place with each of its ends: a request, one block, and that block again every 0.9 s. An end whose
     block is not acknowledged begins anew."""
 
     def __init__(self, server, hosts, ends, to="127.0.0.1"):
-        self.ends = [end(hosts[k % len(hosts)], wait=0) for k in range(ends)]
+        super().__init__([end(hosts[k % len(hosts)], wait=0) for k in range(ends)], 1.5)
         self.server = to, server.port
-        # Where each one's transfer is, and when it was heard.
-        self.ports, self.heard = {}, {}
+        # Where each one's transfer is, and when it answered.
+        self.ports, self.answered = {}, {}
         self.begun = 0
-        self.over = threading.Event()
-        self.thread = threading.Thread(target=self.hold, daemon=True)
 
-    def hear(self, until):
+    def receive(self, until):
         while not self.over.is_set() and time.monotonic() < until:
             for own in select.select(self.ends, [], [], 0.02)[0]:
                 answer, sender = own.recvfrom(2000)
                 if answer[:2] == b"\0\4":
-                    self.heard[own] = time.monotonic()
+                    self.answered[own] = time.monotonic()
                     if self.ports.get(own) != sender:
                         self.ports[own] = sender
                         own.sendto(BLOCK, sender)
 
-    def hold(self):
+    def attack(self):
         while not self.over.is_set():
             now = time.monotonic()
             for own in self.ends:
-                if now - self.heard.get(own, 0) < 2:
+                if now - self.answered.get(own, 0) < 2:
                     own.sendto(BLOCK, self.ports[own])
                 else:
                     own.sendto(WRQ, self.server)
                     self.begun += 1
-            self.hear(now + 0.9)
-
-    def __enter__(self):
-        self.thread.start()
-        time.sleep(1.5)
-        return self
-
-    def __exit__(self, *_):
-        self.over.set()
-        self.thread.join()
-        for own in self.ends:
-            own.close()
+            self.receive(now + 0.9)
 
 
 def others_get_in(name, server, to="127.0.0.1", count=20):
@@ -69,10 +55,11 @@ def others_get_in(name, server, to="127.0.0.1", count=20):
             again += 1
             time.sleep(0.3)
         took = time.monotonic() - began
+        check(f"{name}: a get: {said}", status == 0 or b"server busy" in said or b"timed out" in said)
         got += status == 0 and took < 2
         slowest = max(slowest, took)
     print(f"{name}: {got} of {count} gets, {again} tries more, the slowest {slowest:.2f} s")
-    check(name, got == count)
+    check_time(name, got == count)
 
 
 def one_collection(server):
@@ -117,3 +104,6 @@ def own_address():
         except OSError:
             return None
     return None if host.startswith("127.") else host
+
+
+ROWS = requests_alone_hold_no_place, slow_transfers_give_way, neighbours_give_way

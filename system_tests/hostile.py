@@ -4,7 +4,6 @@
 Each row is a function. It prints what it measured; the last line counts the checks.
 """
 import os
-import resource
 import select
 import shutil
 import signal
@@ -14,11 +13,13 @@ import time
 from concurrent.futures import ThreadPoolExecutor
 from functools import partial
 
+import filling
+import holding
+import pacing
 from attacking import (
-    FOLDER, Flood, HEADER, RRQ, Server, WRQ, check, counts, done, drain, end, file, loaded, memory_of, processes,
-    record, request, run, sent_but_for_the_last, sockets_of, stop,
+    FOLDER, Flood, HEADER, RRQ, Server, WRQ, check, check_time, counts, done, drain, end, file, loaded, memory_of, processes,
+    record, request, run, sent_but_for_the_last, sockets_of, stop, tries,
 )
-from holding import neighbours_give_way, own_address, requests_alone_hold_no_place, slow_transfers_give_way
 from saying import a_server_that_stops_answering, what_a_server_says
 
 
@@ -77,12 +78,13 @@ def who_may_not_put_costs_no_port():
             status, _, got = server.get()
         print(f"20,000 requests a second of a host that may not put: {opened} ports open, another's put {put:.2f} s, a get {got:.2f} s")
         check("the ports of a host that may not put", opened == 1)
-        check("puts and gets beside it", put < 1 and status == 0 and got < 1)
+        check("a get beside it", status == 0)
+        check_time("puts and gets beside it", put < 1 and got < 1)
 
 
 def one_host_does_not_close_the_archive():
     """A host that asks for 64 transfers and continues none has 32 of them, and others are served at once."""
-    host = own_address()
+    host = holding.own_address()
     if host is None:
         print("requests of one host: not tried, since this host has no other address than 127.x.x.x")
         return
@@ -95,7 +97,8 @@ def one_host_does_not_close_the_archive():
         status, _, took = server.get()
         print(f"64 requests of one host: {opened} transfers; another host's get took {took:.2f} s")
         check("the transfers of one host", opened == 32)
-        check("another host's get", status == 0 and took < 1)
+        check("another host's get", status == 0)
+        check_time("the time of another host's get", took < 1)
 
 
 def strangers_keep_no_transfer_alive():
@@ -114,7 +117,7 @@ def strangers_keep_no_transfer_alive():
             except OSError:
                 pass
         print(f"a stranger's ACK every 0.4 s: the transfer lived for {lived:.1f} s")
-        check("a transfer that a stranger answers", 0 < lived < 7)
+        check_time("a transfer that a stranger answers", 0 < lived < 7)
 
 
 def other_hosts_get_no_answer():
@@ -147,13 +150,14 @@ def junk_is_no_progress(host):
         status, text, took = done(process, 20)
     print(f"250 junk datagrams a second from {host}: the get timed out after {took:.1f} s")
     says = b"tws: transfer failed: timed out\ntws: no answer from 127.0.0.1 port %d: " % asked
-    check(f"a get with junk from {host}: {text}", status == 4 and text.startswith(says) and took < 6)
+    check(f"a get with junk from {host}: {text}", status == 4 and text.startswith(says))
+    check_time(f"the time of a get with junk from {host}", took < 6)
 
 
 def five_time_outs_end_a_transfer():
     """The rows that wait for five time-outs, side by side: junk is from the server's host of a get, and from another."""
     rows = [strangers_keep_no_transfer_alive, *(partial(junk_is_no_progress, host) for host in ("127.0.0.1", "127.0.0.2"))]
-    rows.append(a_server_that_stops_answering)
+    rows += a_server_that_stops_answering, pacing.a_silent_peer_gets_the_first_block_twice
     with ThreadPoolExecutor() as pool:
         for row in [pool.submit(row) for row in rows]:
             row.result()
@@ -179,7 +183,7 @@ def floods_slow_gets_down_no_more_than_threefold():
             middle = sorted(times)[2]
             print(f"4 MB while 20,000 junk datagrams a second come to {name}: {middle:.2f} s, without {plain:.2f} s, {failed} of 5 failed")
             check(f"gets with junk at {name}", failed == 0)
-            check(f"the time of gets with junk at {name}", middle < 3 * plain + 1)
+            check_time(f"the time of gets with junk at {name}", middle < 3 * plain + 1)
 
         def client_port(process):
             while not sockets_of(process.pid):
@@ -231,8 +235,8 @@ def a_put_that_changes_nothing_is_cheap():
             own.sendto(b"\0\5\0\0\0", ("127.0.0.1", port))
         puts.sort(), gets.sort()
         print(f"1.67 million records: a put that changes nothing {1000 * puts[10]:.2f} ms, a request to read {1000 * gets[10]:.2f} ms")
-        check("a put that changes nothing", puts[10] < 0.01)
-        check("a request to read", gets[10] < 0.01)
+        check_time("a put that changes nothing", puts[10] < 0.01)
+        check_time("a request to read", gets[10] < 0.01)
 
 
 def gets_write_before_they_dally():
@@ -258,25 +262,29 @@ def gets_write_before_they_dally():
         time.sleep(0.1)
     ended = time.monotonic() - began
     print(f"a last block every 0.1 s for ever: written after {written or 99:.1f} s, ended after {ended:.1f} s")
-    check("the file is written at once", written is not None and written < 0.5)
-    check("its line is printed at once", said is not None and said < 0.5)
-    check("the get ends", ended < 3 and process.wait() == 0)
+    check_time("the file is written at once", written is not None and written < 0.5)
+    check_time("its line is printed at once", said is not None and said < 0.5)
+    check("the get ends", process.wait() == 0)
+    check_time("it ends in time", ended < 3)
     with Server() as honest:
         status, _, took = honest.get()
         print(f"an ordinary get: {took:.2f} s")
-        check("an ordinary get", status == 0 and took < 1)
+        check("an ordinary get", status == 0)
+        check_time("the time of an ordinary get", took < 1)
 
 
 def puts_stop_reading():
     """A file without end is left once it is known to be none, or is longer than a file may be."""
     status, text, took = done(run("put", "127.0.0.1", "/dev/zero", "--port", 9))
     print(f"put /dev/zero: {took:.2f} s")
-    check("a file without end", status == 3 and text.startswith(b"tws: /dev/zero: unreadable: BadSignature\n") and took < 1)
+    check("a file without end", status == 3 and text.startswith(b"tws: /dev/zero: unreadable: BadSignature\n"))
+    check_time("the time of a file without end", took < 1)
     with subprocess.Popen(["cat", file("pads.tws"), "/dev/zero"], stdout=subprocess.PIPE) as pads:
         status, text, took = done(run("put", "127.0.0.1", f"/proc/{os.getpid()}/fd/{pads.stdout.fileno()}", "--port", 9))
         pads.stdout.close()
     print(f"pads without end: {took:.2f} s")
-    check("pads without end", status == 4 and text == b"tws: transfer failed: too long\n" and took < 10)
+    check("pads without end", status == 4 and text == b"tws: transfer failed: too long\n")
+    check_time("the time of pads without end", took < 10)
 
 
 def as_many_blocks_as_there_are_numbers():
@@ -341,6 +349,7 @@ def drafts_that_are_no_files():
         out.write(b"other")
     for k, make in enumerate((os.mkfifo, lambda path: os.symlink(other, path))):
         folder = os.path.join(FOLDER, f"drafts{k}")
+        shutil.rmtree(folder, ignore_errors=True)
         os.mkdir(folder)
         draft = os.path.join(folder, "lynx.new")
         make(draft)
@@ -352,91 +361,10 @@ def drafts_that_are_no_files():
             with open(os.path.join(folder, "lynx.tws"), "rb") as kept, open(path, "rb") as sent:
                 same = kept.read() == sent.read()
             print(f"a draft that is {'a link' if k else 'a FIFO'}: the put took {took:.2f} s")
-            check("a draft that is no file", status == 0 and same and took < 5)
+            check("a draft that is no file", status == 0 and same)
+            check_time("the time of its put", took < 5)
     with open(other, "rb") as left:
         check("nothing is written through a link", left.read() == b"other")
-
-
-def outgrows(name, fitting, more, *words):
-    """A put that would make a collection longer than the limit is refused. What was there is served, also after a restart,
-    and a put that fits is kept."""
-    folder = os.path.join(FOLDER, "outgrown")
-    os.makedirs(folder)
-    first, second, small = file("first.tws", *fitting), file("second.tws", *more), file("small.tws", record(1, b"TINY"))
-    kept = loaded(first)
-    refused = (4, b"tws: transfer failed: refused 0\ntws: the server says: not kept\n")
-
-    def served(server):
-        status, text, took = server.get()
-        same = loaded(os.path.join(FOLDER, "got")) == kept
-        if status != 0 or not same or took >= 20:
-            print(f"{name}: a get took {took:.2f} s, status {status}, {text}, the collection: {same}")
-        return status == 0 and same and took < 20
-
-    with Server("--dir", folder, *words) as server:
-        check(f"{name}: a put that fits", server.put(first)[0] == 0)
-        check(f"{name}: a get before", served(server))
-        check(f"{name}: what would outgrow it is refused", server.put(second)[:2] == refused)
-        check(f"{name}: a get after", served(server))
-    check(f"{name}: what is kept", loaded(os.path.join(folder, "lynx.tws")) == kept)
-    with Server("--dir", folder, *words) as server:
-        check(f"{name}: a get after a restart", served(server))
-        check(f"{name}: a small put after that", server.put(small)[0] == 0)
-        check(f"{name}: it is kept", len(loaded(os.path.join(folder, "lynx.tws"))) == len(kept) + 20)
-    with Server(*words) as server:
-        check(f"{name}: a put without a folder", server.put(first)[0] == 0)
-        check(f"{name}: it is refused without a folder", server.put(second)[:2] == refused)
-        check(f"{name}: a get without a folder", served(server))
-    print(f"{name}: an upload that would outgrow it is refused, and {len(kept)} bytes stay served")
-    shutil.rmtree(folder)
-
-
-def no_collection_outgrows_what_can_be_served():
-    """Two files of distinct solutions that together have more bytes than the limit, or than can be served at all."""
-    few = [[record(level, bytes([letter]) * 4) for level in range(1, 6)] for letter in b"AB"]
-    outgrows("a limit of 150 bytes", few[0], few[1], "--limit", 150)
-    many = [[record(level, bytes([letter]) * 4, moves=b"\0" * 99_980) for level in range(1, 171)] for letter in b"AB"]
-    outgrows("the 33,553,919 bytes that can be served", many[0], many[1])
-
-
-def a_full_disk_loses_nothing():
-    """While the disk is full puts are refused, nothing partial is left, and what was there is served. Where no small file
-    system can be mounted, a limit on the size of the server's files stands for the disk."""
-    folder = os.path.join(FOLDER, "full")
-    os.mkdir(folder)
-    first = file("first.tws", *[record(level, b"AAAA", moves=b"\0" * 980) for level in range(1, 301)])
-    second = file("second.tws", *[record(level, b"BBBB", moves=b"\0" * 980) for level in range(1, 201)])
-    mounted = subprocess.run(["mount", "-t", "tmpfs", "-o", "size=1m", "tmpfs", folder], stderr=subprocess.DEVNULL).returncode == 0
-    filler = os.path.join(folder, "filler")
-    size = resource.RLIM_INFINITY, resource.RLIM_INFINITY
-
-    def confined():
-        signal.signal(signal.SIGXFSZ, signal.SIG_IGN)
-        resource.setrlimit(resource.RLIMIT_FSIZE, (400_000, size[1]))
-
-    def is_kept(text):
-        return loaded(os.path.join(folder, "lynx.tws")) == text and sorted(os.listdir(folder)) == ["lynx.tws"]
-
-    try:
-        with Server("--dir", folder, **({} if mounted else {"preexec_fn": confined})) as server:
-            check("a put while there is room", server.put(first)[0] == 0)
-            if mounted:
-                with open(filler, "wb") as full:
-                    full.write(b"\0" * 600_000)
-            check("a put on a full disk", server.put(second)[:2] == (4, b"tws: transfer failed: refused 0\ntws: the server says: not kept\n"))
-            check("a get on a full disk", server.get()[0] == 0 and loaded(os.path.join(FOLDER, "got")) == loaded(first))
-            if mounted:
-                os.remove(filler)
-            check("nothing partial is left", is_kept(loaded(first)))
-            if not mounted:
-                resource.prlimit(server.process.pid, resource.RLIMIT_FSIZE, size)
-            check("a put once there is room", server.put(second)[0] == 0)
-            both = HEADER + b"".join(r for pair in zip(records_of(first), [*records_of(second), *[b""] * 100]) for r in pair)
-            check("it is kept", is_kept(both) and server.get()[0] == 0 and loaded(os.path.join(FOLDER, "got")) == both)
-        print(f"a full disk{'' if mounted else ', as a limit on the size of files'}: the put is refused, and the next one is kept")
-    finally:
-        if mounted:
-            subprocess.run(["umount", folder])
 
 
 def no_solution_stops_tile_world():
@@ -451,21 +379,14 @@ def no_solution_stops_tile_world():
         print("solutions without moves and of level 0: the put is refused")
 
 
-def records_of(path):
-    """The records of a file, of 1,000 bytes each."""
-    text = loaded(path)[len(HEADER):]
-    return [text[at:at + 1000] for at in range(0, len(text), 1000)]
-
-
 def main():
     rows = [
         what_waits_is_not_timed_out,
         junk_costs_no_port,
         who_may_not_put_costs_no_port,
         one_host_does_not_close_the_archive,
-        requests_alone_hold_no_place,
-        slow_transfers_give_way,
-        neighbours_give_way,
+        *holding.ROWS,
+        *pacing.ROWS,
         other_hosts_get_no_answer,
         what_a_server_says,
         five_time_outs_end_a_transfer,
@@ -478,16 +399,12 @@ def main():
         as_many_blocks_as_there_are_numbers,
         a_dallying_transfer_gives_way,
         ports_are_drawn,
-        no_collection_outgrows_what_can_be_served,
         no_solution_stops_tile_world,
-        a_full_disk_loses_nothing,
+        *filling.ROWS,
     ]
     try:
         for row in rows:
-            try:
-                row()
-            except Exception as fault:
-                check(f"{row.__name__}: {fault!r}", False)
+            tries(row)
     finally:
         for process in processes:
             if process.poll() is None:

@@ -53,7 +53,7 @@ class Archive:
     def __init__(self, k):
         self.draw = random.Random(k)
         self.name = f"server {k}"
-        self.port = 45000 + 200 * k
+        self.port = 25000 + 200 * k
         self.folder = os.path.join(FOLDER, str(k))
         self.kept = os.path.join(self.folder, "kept")
         os.makedirs(self.kept)

@@ -192,7 +192,17 @@ def piped():
     check(f"without a terminal nothing is shown: {run.stderr}", run.returncode == 0 and run.stderr == b"")
 
 
-for test in (slow_put, slow_get, slow_better, quick, silent, piped):
+def names():
+    """Names may have any characters. A terminal gets no control character of them, a pipe each."""
+    name = f"{FOLDER}/a\x1b[2J\x7f\ré’\x9b2J.tws"
+    run = Run(["show", name])
+    shown = name.translate({0x1B: "?", 0x7F: "?", 13: "?"}).encode().replace("\x9b".encode(), b"\xc2?")
+    check(f"a name on a terminal: {run.shown}", run.status == 2 and run.shown.startswith(b"tws: read fault\ntws: " + shown + b": "))
+    piped = subprocess.run([PROGRAM, "show", name], stdin=subprocess.DEVNULL, capture_output=True)
+    check(f"a name in a pipe: {piped.stderr}", piped.stderr.startswith(f"tws: read fault\ntws: {name}: ".encode()))
+
+
+for test in (slow_put, slow_get, slow_better, quick, silent, piped, names):
     test()
 print(f"{counts[True]} passed, {counts[False]} failed")
 sys.exit(1 if counts[False] else 0)

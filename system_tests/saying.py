@@ -38,17 +38,23 @@ def what_a_server_says():
 
 
 def a_server_that_stops_answering():
-    """A put whose request alone is answered, where what another port says is not the server's; and a get that gets one block."""
+    """A put whose request alone is answered, and a get that gets one block. What another port says is not the server's, before
+    the server answers and after it."""
 
     def stops(server, other):
+        other(b"\0\4\0\2")
         server(b"\0\4\0\0")
         other(error(b"one"))
+        other(b"\0\4\0\2")
 
-    errors = b"tws: transfer failed: timed out\ntws: answers stopped after block 0: try again\n"
+    errors = b"tws: transfer failed: timed out\ntws: answers stopped after block 0 of 1: try again\n"
     said(put_words(), stops, errors)
 
-    def stops_later(server, _):
-        server(b"\0\3\0\1" + (HEADER + record(1, moves=b"\x61" * 700))[:512])
+    def stops_later(server, other):
+        block = (HEADER + record(1, moves=b"\x61" * 700))[:512]
+        other(b"\0\3\0\2" + block)
+        server(b"\0\3\0\1" + block)
+        other(b"\0\3\0\2" + block)
 
     errors = b"tws: transfer failed: timed out\ntws: answers stopped after block 1: try again\n"
     said(("get", "127.0.0.1", "lynx", os.path.join(FOLDER, "said.got")), stops_later, errors)

@@ -73,6 +73,14 @@ def shown(password):
     return password.decode() if all(32 <= byte < 127 for byte in password) else "x" + password.hex()
 
 
+def set_name(data):
+    """The name of the level set that a file has in its first record, as a page is to show it."""
+    at = 8 + data[7]
+    body = data[at + 4 : at + 4 + int.from_bytes(data[at : at + 4], "little")]
+    name = body[16:].split(b"\0")[0] if body[:6] == bytes(6) else b""
+    return "".join(chr(byte) if 32 <= byte < 127 else "?" for byte in name[:64])
+
+
 def tables(files):
     """What a page of these files is to show: for each its heading, its counts, and the cells of its table."""
     found = []
@@ -82,7 +90,8 @@ def tables(files):
         counts = f"Solutions: {len(rows)}, seconds in all: {hundredths // 100}.{hundredths % 100:02}"
         cells = [["Level", "Password", "Seconds", "Ticks", "Moves", "Bytes"]]
         cells += [[row[0], shown(password), row[3], row[2], row[4], row[5]] for row, password in zip(rows, passwords)]
-        found.append((TITLES[RULESETS[data[4]]], counts, cells))
+        name = set_name(data)
+        found.append((TITLES[RULESETS[data[4]]] + (f": {name}" if name else ""), counts, cells))
     return found
 
 
@@ -176,6 +185,35 @@ def check_page(count, name, paths, files, folder):
         count.skipped += 1
 
 
+# Levels of the made file, and one that it has not solved, with names that mean something in HTML or to a reader of values.
+LEVELS = [(65535, b"BDHP", 'A, "B"', 0), (1, b"<b>&", "<script>alert(1)</script>", 200), (7, b"NONE", "'&amp;'", 150), (8, b"</td", "", 50)]
+
+
+def time_left(limit, ticks):
+    """The time left under Lynx, as Tile World lists it."""
+    return f"{(limit or 999) - ticks // 20} - .{ticks % 20 * 5:02}"
+
+
+def check_levels(count, path, data, folder):
+    """The page of a Lynx file by a list of levels."""
+    text = io.StringIO(newline="")
+    csv.writer(text).writerows([["number", "password", "name", "limit"]] + [[n, p.decode(), name, limit] for n, p, name, limit in LEVELS])
+    (folder / "levels.csv").write_text(text.getvalue(), newline="")
+    done = run("page", "--levels", folder / "levels.csv", path)
+    count.same("levels: status", (done.returncode, done.stderr), (0, b""))
+    rows, passwords = solutions(data)
+    solved = {(int(row[0]), password): row for row, password in zip(rows, passwords)}
+    cells = [["Level", "Password", "Name", "Time left", "Seconds", "Moves"]]
+    for number, password, name, limit in LEVELS:
+        row = solved.pop((number, password), None)
+        cells.append([str(number), shown(password), name] + ([time_left(limit, int(row[2])), row[3], row[4]] if row else ["", "", ""]))
+    cells += [[row[0], shown(password), "", "", row[3], row[4]] for (_, password), row in solved.items()]
+    title, counts, _ = tables([data])[0]
+    read = Page(done.stdout.decode("ascii"))
+    count.same("levels: table", read.found(), [(title, counts, cells)])
+    count.same("levels: complete in itself", (read.outside, read.open), ([], []))
+
+
 def main():
     count = Count()
     with tempfile.TemporaryDirectory() as name:
@@ -188,6 +226,7 @@ def main():
             check_csv(count, path.name, path, data)
         check_page(count, "the made file", paths[:1], files[:1], folder)
         check_page(count, "all files", paths, files, folder)
+        check_levels(count, made, MADE, folder)
     print(f"{count.passed} passed, {count.failed} failed, {count.skipped} skipped")
     return 1 if count.failed else 0
 

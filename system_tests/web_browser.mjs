@@ -28,6 +28,18 @@ const FORBIDDEN = `new Promise((resolve) => {
   fetch("http://localhost:9/").catch(() => setTimeout(resolve, 1000));
 })`;
 
+// Whether the last column of the comparison is within its box.
+const RESULT_IN_SIGHT = `(() => {
+  const box = document.querySelector("#comparison-table .rows");
+  return box.querySelector("tbody td:last-child").getBoundingClientRect().right <= box.getBoundingClientRect().right;
+})()`;
+// Whether each head of a table can be pressed wherever it is.
+const HEADS_ARE_BUTTONS = `[...document.querySelectorAll("th")].every((head) => {
+  const { left, width, top, height } = head.getBoundingClientRect();
+  const button = head.firstChild.getBoundingClientRect();
+  return button.left - left < 12 && left + width - button.right < 12 && button.top - top < 12 && top + height - button.bottom < 12;
+})`;
+
 /** A button saves what the program makes. */
 async function saves(tab, text, name, wanted, within = "main") {
   check(`the button ${text}`, await tab.press(text, within));
@@ -80,6 +92,7 @@ async function alone() {
 
   const rows = texts(`${last} tbody tr`), column = texts(`${last} tbody td:nth-child(6)`);
   const press = (name) => tab.press(name, `${last} th`);
+  check("a head can be pressed beside its word", await tab.run(HEADS_ARE_BUTTONS));
   await press("Ticks");
   const rising = (await tab.run(column)).map(Number);
   check("sorted by ticks", rising.length > 100 && rising.every((ticks, i) => i === 0 || rising[i - 1] <= ticks));
@@ -114,6 +127,10 @@ async function alone() {
   check("more of its rows", (await tab.run(texts("p"))).includes("The first 1000 of 20000 rows."));
   await tab.choose("#choose", [at("more.tws")]);
   check("a file is chosen", await tab.until(`${said} === "more.tws: 1 solution."`));
+  await tab.choose("#choose", [at("more.tws")]);
+  check("the same file again has a name of its own", await tab.until(`${said} === "more (2).tws: 1 solution."`));
+  await tab.run(`add([new File(["1,bdhp,One,99\\n"], "other.csv")])`);
+  check("a list of another set", await tab.until(`${said}.startsWith("other.csv: 1 level. No file has solved one of them")`));
   check("no problems", tab.problems().length === 0 || (console.log(tab.problems()), false));
 }
 
@@ -123,6 +140,7 @@ async function looks(tab) {
     await tab.resize(width, height, scheme);
     await tab.run("window.scrollTo(0, 0)");
     check(`it fits ${width} pixels`, await tab.run("document.documentElement.scrollWidth <= window.innerWidth"));
+    check(`results are in sight at ${width} pixels`, await tab.run(RESULT_IN_SIGHT));
     const picture = await tab.picture();
     fs.writeFileSync(at(`${name}.png`), picture);
     check(`the picture ${name} is small`, name !== "page" || picture.length <= PICTURE_LIMIT);
