@@ -1,6 +1,7 @@
 """What the attackers of `hostile.py` share: the program, its servers and ends of their own, floods, and the count of the
 checks. The arguments of the process are the program and a folder."""
 import os
+import shutil
 import signal
 import socket
 import struct
@@ -31,14 +32,23 @@ def check_time(name, holds):
         late.append(name)
 
 
+def check_done(name, status, said):
+    """Checks that a put or a get was done. One that has timed out has missed a bound in seconds."""
+    check_one = check_time if b"timed out" in said else check
+    check_one(f"{name}: {said}", status == 0)
+
+
 def tries(row):
-    """Runs a row. If it misses nothing but bounds in seconds it is run again, twice at most, and the last time counts: other
-    work on the machine can make it miss them, and a server that does not keep them misses them each time."""
+    """Runs a row. If it misses nothing but bounds in seconds, an answer that does not come among them, it is run again, twice
+    at most, and the last time counts: other work on the machine can make it miss them, and a server that does not keep them
+    misses them each time."""
     for left in 2, 1, 0:
         before = dict(counts)
         late.clear()
         try:
             row()
+        except TimeoutError as fault:
+            check_time(f"{row.__name__}: {fault!r}", False)
         except Exception as fault:
             check(f"{row.__name__}: {fault!r}", False)
         missed = counts[False] - before[False]
@@ -57,6 +67,13 @@ def file(name, *records):
     path = os.path.join(FOLDER, name)
     with open(path, "wb") as out:
         out.write(HEADER + b"".join(records))
+    return path
+
+
+def empty_folder(name):
+    path = os.path.join(FOLDER, name)
+    shutil.rmtree(path, ignore_errors=True)
+    os.mkdir(path)
     return path
 
 
@@ -119,11 +136,16 @@ class Server:
     def send(self, own, bytes_to_send):
         own.sendto(bytes_to_send, ("127.0.0.1", self.port))
 
-    def begin(self, own, what):
-        """Sends a request, and returns the first answer and the port of the transfer."""
-        self.send(own, what)
-        answer, (_, port) = own.recvfrom(2000)
-        return answer, port
+    def begin(self, own, what, times=1):
+        """Sends a request, so many times at most if no answer comes, and returns the first answer and the transfer's port."""
+        for left in reversed(range(times)):
+            self.send(own, what)
+            try:
+                answer, (_, port) = own.recvfrom(2000)
+                return answer, port
+            except TimeoutError:
+                if left == 0:
+                    raise
 
 
 def stop(process):

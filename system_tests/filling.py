@@ -6,7 +6,7 @@ import signal
 import subprocess
 import time
 
-from attacking import FOLDER, HEADER, Server, WRQ, check, end, file, loaded, record
+from attacking import FOLDER, HEADER, Server, WRQ, check, check_done, check_time, empty_folder, end, file, loaded, record
 
 NOT_KEPT = (4, b"tws: transfer failed: refused 0\ntws: the server says: not kept\n")
 
@@ -20,32 +20,30 @@ def records_of(path):
 def outgrows(name, fitting, more, *words):
     """A put that would make a collection longer than the limit is refused. What was there is served, also after a restart,
     and a put that fits is kept."""
-    folder = os.path.join(FOLDER, "outgrown")
-    os.makedirs(folder)
+    folder = empty_folder("outgrown")
     first, second, small = file("first.tws", *fitting), file("second.tws", *more), file("small.tws", record(1, b"TINY"))
     kept = loaded(first)
 
-    def served(server):
-        status, text, took = server.get()
-        same = loaded(os.path.join(FOLDER, "got")) == kept
-        if status != 0 or not same or took >= 20:
-            print(f"{name}: a get took {took:.2f} s, status {status}, {text}, the collection: {same}")
-        return status == 0 and same and took < 20
+    def served(server, when):
+        status, said, took = server.get()
+        check_done(f"{name}: a get {when}", status, said)
+        check(f"{name}: what is served {when}", status != 0 or loaded(os.path.join(FOLDER, "got")) == kept)
+        check_time(f"{name}: the time of a get {when}: {took:.2f} s", took < 20)
 
     with Server("--dir", folder, *words) as server:
         check(f"{name}: a put that fits", server.put(first)[0] == 0)
-        check(f"{name}: a get before", served(server))
+        served(server, "before")
         check(f"{name}: what would outgrow it is refused", server.put(second)[:2] == NOT_KEPT)
-        check(f"{name}: a get after", served(server))
+        served(server, "after")
     check(f"{name}: what is kept", loaded(os.path.join(folder, "lynx.tws")) == kept)
     with Server("--dir", folder, *words) as server:
-        check(f"{name}: a get after a restart", served(server))
+        served(server, "after a restart")
         check(f"{name}: a small put after that", server.put(small)[0] == 0)
         check(f"{name}: it is kept", len(loaded(os.path.join(folder, "lynx.tws"))) == len(kept) + 20)
     with Server(*words) as server:
         check(f"{name}: a put without a folder", server.put(first)[0] == 0)
         check(f"{name}: it is refused without a folder", server.put(second)[:2] == NOT_KEPT)
-        check(f"{name}: a get without a folder", served(server))
+        served(server, "without a folder")
     print(f"{name}: an upload that would outgrow it is refused, and {len(kept)} bytes stay served")
     shutil.rmtree(folder)
 
@@ -61,8 +59,7 @@ def no_collection_outgrows_what_can_be_served():
 def a_full_disk_loses_nothing():
     """While the disk is full puts are refused, nothing partial is left, and what was there is served. Where no small file
     system can be mounted, a limit on the size of the server's files stands for the disk."""
-    folder = os.path.join(FOLDER, "full")
-    os.mkdir(folder)
+    folder = empty_folder("full")
     first = file("first.tws", *[record(level, b"AAAA", moves=b"\0" * 980) for level in range(1, 301)])
     second = file("second.tws", *[record(level, b"BBBB", moves=b"\0" * 980) for level in range(1, 201)])
     mounted = subprocess.run(["mount", "-t", "tmpfs", "-o", "size=1m", "tmpfs", folder], stderr=subprocess.DEVNULL).returncode == 0
@@ -115,8 +112,7 @@ def on_the_disk(folder):
 def a_history_has_a_limit():
     """Files that improve nothing come without a pause, to a server whose history may have 1 MB. Once that is counted it grows
     no more, and no collection changes."""
-    folder = os.path.join(FOLDER, "bounded")
-    os.makedirs(folder)
+    folder = empty_folder("bounded")
     good = file("good.tws", record(1, moves=b"\0" * 400))
     with Server("--history", folder, "--history-limit", 1_000_000) as server:
         check("a put while the history has room", server.put(good)[0] == 0)

@@ -1,12 +1,10 @@
 """Rows of `hostile.py`: who improves a collection all the time, whether others are served all the same, and what a request
 with a forged sender brings."""
-import os
 import select
-import shutil
 import time
 from contextlib import contextmanager
 
-from attacking import Attack, FOLDER, HEADER, RRQ, Server, WRQ, check, check_time, done, end, file, record, run
+from attacking import Attack, HEADER, RRQ, Server, WRQ, check, check_time, done, empty_folder, end, file, record, run
 
 
 class Improver(Attack):
@@ -51,9 +49,7 @@ class Improver(Attack):
 @contextmanager
 def serving(size, each):
     """A server with a collection of about so many bytes in a folder, in records of so many."""
-    folder = os.path.join(FOLDER, "paced")
-    shutil.rmtree(folder, ignore_errors=True)
-    os.mkdir(folder)
+    folder = empty_folder("paced")
     with Server("--dir", folder) as server:
         records = [record(level, moves=b"\0" * (each - 20)) for level in range(1, size // each + 1)]
         check("what is improved", server.put(file("paced.tws", *records))[0] == 0)
