@@ -133,6 +133,32 @@ fn read_record<A: Allocator>(
     Ok(Some((read_body(alloc, offset + 4, body)?, rest)))
 }
 
+// The bytes after the record that the bytes begin with, by its size alone; `None` if it is cut or has none.
+fn after_record(bytes: &[u8]) -> Option<&[u8]>
+    ensures { IfSome result (λ after. length after.now < length bytes.now) }
+{
+    if bytes.len() < 4 {
+        return None;
+    }
+    let (field, rest) = bytes.split_at(4);
+    let size = LittleEndian::read_u32(field) as usize;
+    if !is_size(size) {
+        return None;
+    }
+    rest.get(size..)
+}
+
+// How many records the bytes begin with, by their sizes alone.
+fn count_records(bytes: &[u8]) -> usize {
+    let mut count: usize = 0;
+    let mut rest = bytes;
+    while let Some(after) = after_record(rest) {
+        count = count.saturating_add(1);
+        rest = after;
+    }
+    count
+}
+
 // The records from offset `start` on, up to one that is cut, and the bytes from there.
 pub(crate) fn read_records<A: Allocator + Copy>(
     alloc: A,
@@ -146,6 +172,8 @@ pub(crate) fn read_records<A: Allocator + Copy>(
     ensures fault { IfErr result (RecordsFail bytes.now start) }
 {
     let mut records = Vec::new(alloc);
+    // A list that grows is copied each time. Where the room is refused, it grows as it needs to.
+    let _ = records.reserve_exact(count_records(bytes));
     let mut rest = bytes;
     let mut offset = start;
     while let Some((record, after)) = read_record(alloc, offset, rest)? {

@@ -13,7 +13,13 @@ impl fmt::Display for Seconds {
     ghost output = { λ s. Some (seconds_text s.0) };
 
     fn fmt<W: fmt::Write>(&self, f: &mut fmt::Formatter<W>) -> fmt::Result {
-        let ticks = self.0;
-        write!(f, "{}.{}{}", ticks / 20, ticks % 20 / 2, ticks % 2 * 5)
+        // A division of 128 bits takes long.
+        match u64::try_from(self.0) {
+            Ok(ticks) => write!(f, "{}.{}{}", ticks / 20, ticks % 20 / 2, ticks % 2 * 5),
+            Err(_) => {
+                let ticks = self.0;
+                write!(f, "{}.{}{}", ticks / 20, ticks % 20 / 2, ticks % 2 * 5)
+            }
+        }
     }
 }

@@ -1,0 +1,5 @@
+use Rattle.std.proofs.Common.{length}
+use Rattle.tws_reader.proofs.reading.count_records.Given as goal
+
+abbrev pub decreases-loop-after : goal.decreases-loop-after
+decreases-loop-after l = length l.rest
