@@ -62,7 +62,7 @@ fn free_name<F: Folder, A: Allocator + Copy>(
     Err(HistoryFault::NoFreeName)
 }
 
-// The fault of a call before the rename.
+// The fault of a call after which the file does not have its name.
 fn fault_of(call: FolderCall) -> HistoryFault
     ensures early { result ≢ HistoryFault.SyncFolder }
     ensures named { result ≢ HistoryFault.NoFreeName }
@@ -71,6 +71,7 @@ fn fault_of(call: FolderCall) -> HistoryFault
         FolderCall::Remove | FolderCall::Create => HistoryFault::Create,
         FolderCall::Write => HistoryFault::Write,
         FolderCall::Sync => HistoryFault::Sync,
+        FolderCall::Rename => HistoryFault::Rename,
     }
 }
 

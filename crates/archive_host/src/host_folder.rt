@@ -8,7 +8,7 @@ use crate::history_room::HistoryRoom;
 use crate::host_file::HostFile;
 use crate::known_file::Place;
 use archive_history::HistoryFolder;
-use folders::{CallFault, Folder};
+use folders::{CallFault, Folder, RenameFault};
 use std::alloc::Allocator;
 use std::fs::{File, Metadata, OpenOptions, TryLockError};
 use std::io::{ErrorKind, Read};
@@ -64,6 +64,15 @@ pub(crate) fn fault_of(e: &io::Error) -> CallFault {
         CallFault::Memory
     } else {
         CallFault::Device
+    }
+}
+
+// The fault of a rename. The system says that a file is not there before it changes anything.
+fn rename_fault_of(e: &io::Error) -> RenameFault {
+    if e.kind() == ErrorKind::NotFound {
+        RenameFault::Gone
+    } else {
+        RenameFault::Unknown
     }
 }
 
@@ -358,9 +367,14 @@ impl<R: Files<File = File> + Clock + AllocGlobal + Copy> Folder for HostFolder<R
         self.counted(file.sync_all())
     }
 
-    fn rename(&mut self, from: &str, to: &str) -> Result<(), CallFault> {
-        let result = self.rename_file(from, to);
-        self.counted(result)
+    fn rename(&mut self, from: &str, to: &str) -> Result<(), RenameFault> {
+        match self.rename_file(from, to) {
+            Ok(()) => Ok(()),
+            Err(e) => {
+                self.note(e);
+                Err(rename_fault_of(&e))
+            }
+        }
     }
 
     fn sync_folder(&mut self) -> Result<(), CallFault> {

@@ -1,6 +1,6 @@
 -- How a run of a folder's calls goes on, for one name: it stays, or it gets a text, and the same after a crash.
-use Rattle.std.proofs.Common.{◌≡◌, ◌⊎◌, ◌≤◌, ℕ, List, Option, None, Some, inl, inr, ⊎_elim, ap, arith, le_refl}
-use Rattle.folders.specs.Folder.{FolderModel, NarrowsAt, Stays, Narrows, Only, IsSettled}
+use Rattle.std.proofs.Common.{◌≡◌, ℕ, List, Option, None, Some, inl, inr, ⊎_elim, ap, arith, le_refl}
+use Rattle.folders.specs.Folder.{FolderModel, Stays, Narrows, IsSettled}
 use Rattle.folders.specs.Publishing.{Replaces, HasOnly, IsWritten}
 
 -- any folder

@@ -13,7 +13,18 @@ pub enum CallFault {
     Memory,
 }
 
-/// A call before the rename.
+/// Why a file was not renamed.
+#[derive(Clone, Copy, Debug, PartialEq, Eq, Error)]
+pub enum RenameFault {
+    /// There is no file of this name: nothing changed.
+    #[error("Gone")]
+    Gone,
+    /// Any other cause: the file may have its new name.
+    #[error("Unknown")]
+    Unknown,
+}
+
+/// A call after which the new file does not have its name.
 #[derive(Clone, Copy, Debug, PartialEq, Eq)]
 pub enum FolderCall {
     /// An old draft was to be removed.
@@ -24,6 +35,8 @@ pub enum FolderCall {
     Write,
     /// It was to be synced.
     Sync,
+    /// It was to be renamed, and was gone.
+    Rename,
 }
 
 /// A call that failed, and why.
@@ -40,7 +53,7 @@ pub struct CallFailed {
 pub enum PublishFault {
     /// The folder has what it had before.
     NotKept(CallFailed),
-    /// The rename failed: the folder may have what it had before, or the new file.
+    /// The rename failed, of a draft that was there: the folder may have what it had before, or the new file.
     Rename,
     /// The folder was not synced: it has the new file, but after a crash it may have what it had before.
     SyncFolder,

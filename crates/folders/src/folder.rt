@@ -1,11 +1,11 @@
 //! A folder of files that outlive the program.
 
-ghost use Rattle.std.specs.Prelude.{◌≡◌, ◌≢◌, ◌⊎◌, ◌≤◌, [], ℕ, Bool, true, false, List, Option, None, Some, Ok, OnOk, OnErr, IfOk, IfSome};
+ghost use Rattle.std.specs.Prelude.{◌≡◌, ◌≢◌, ◌⊎◌, ◌≤◌, [], ℕ, Bool, true, false, List, Option, None, Some, Ok, Err, OnOk, OnErr, IfOk, IfSome};
 ghost use Rattle.byte_output.specs.Failures.{Rises};
 ghost use Rattle.folders.specs.Folder.{FolderModel, Narrows, Only, Stays, IsSettled, texts_of};
 ghost use Rattle.folders.specs.Publishing.{IsWritten, Replaces};
 
-use crate::faults::CallFault;
+use crate::faults::{CallFault, RenameFault};
 use std::alloc::Allocator;
 use std::io;
 use std::io::Write;
@@ -15,7 +15,7 @@ use std::io::Write;
 /// is synced.
 ///
 /// A call that fails returns `Device`, or `Memory` if an allocation was refused, and raises `faults`. It may have had its
-/// effect.
+/// effect, but for a rename of a file that is not there.
 pub trait Folder {
     /// A new file that is being written.
     type File: Write + Drop;
@@ -69,11 +69,13 @@ pub trait Folder {
         ensures more { faults self.old ≤ faults self.new }
         ensures fault { OnErr result (Rises (faults self.old) (faults self.new)) };
 
-    /// Renames the file under `from` to `to`, in place of the file there.
-    fn rename(&mut self, from: &str, to: &str) -> Result<(), CallFault>
+    /// Renames the file under `from` to `to`, in place of the file there. Fails with `Gone` only if there is no file under
+    /// `from`.
+    fn rename(&mut self, from: &str, to: &str) -> Result<(), RenameFault>
         ensures moved { has_model ≡ true → OnOk result (Narrows (model.reads self.old from.now) (model.reads self.new to.now)) }
         ensures held { has_model ≡ true → OnOk result (Narrows (model.holds self.old from.now) (model.holds self.new to.now)) }
         ensures replaces { has_model ≡ true → (text : List ℕ) → IsWritten model self.old from.now text → Replaces model self.old self.new to.now text }
+        ensures gone { has_model ≡ true → result ≡ Err RenameFault.Gone → (other : List ℕ) → other ≢ from.now → Stays model self.old self.new other }
         ensures failed { has_model ≡ true → undoes_renames ≡ true → OnErr result ((other : List ℕ) → other ≢ from.now → Stays model self.old self.new other) }
         ensures others { has_model ≡ true → (other : List ℕ) → other ≢ from.now → other ≢ to.now → Stays model self.old self.new other }
         ensures more { faults self.old ≤ faults self.new }

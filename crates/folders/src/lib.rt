@@ -11,7 +11,7 @@ mod memory_folder;
 mod publishing;
 
 pub use contents::Contents;
-pub use faults::{CallFailed, CallFault, FolderCall, PublishFault};
+pub use faults::{CallFailed, CallFault, FolderCall, PublishFault, RenameFault};
 pub use folder::Folder;
 pub use memory_folder::MemoryFolder;
 pub use publishing::{clear_draft, publish};

@@ -5,7 +5,7 @@ ghost use Rattle.byte_output.specs.Failures.{Rises};
 ghost use Rattle.folders.specs.Folder.{Stays};
 ghost use Rattle.folders.specs.Memory.{latest};
 
-use crate::faults::CallFault;
+use crate::faults::{CallFault, RenameFault};
 use crate::folder::Folder;
 use std::alloc::{AllocError, Allocator, Global};
 use std::io;
@@ -216,16 +216,16 @@ impl MemoryFolder {
         self.add(change)
     }
 
-    // The text of a file, which has to be there.
-    fn copy_of(&self, name: &str) -> Result<Vec<u8>, CallFault>
+    // The text of a file that is to be renamed.
+    fn copy_of(&self, name: &str) -> Result<Vec<u8>, RenameFault>
         ensures { IfOk result (λ text. file (newest self.now) name.now ≡ Some text.items) }
     {
         let Some(text) = self.file(name) else {
-            return Err(CallFault::Device);
+            return Err(RenameFault::Gone);
         };
         match text.to_vec(self.alloc) {
             Ok(copy) => Ok(copy),
-            Err(_) => Err(CallFault::Memory),
+            Err(_) => Err(RenameFault::Unknown),
         }
     }
 }
@@ -278,18 +278,26 @@ impl Folder for MemoryFolder {
         }
     }
 
-    fn rename(&mut self, from: &str, to: &str) -> Result<(), CallFault> {
+    fn rename(&mut self, from: &str, to: &str) -> Result<(), RenameFault> {
         let text = match self.copy_of(from) {
             Ok(text) => text,
-            Err(fault) => return Err(self.fail(fault)),
+            Err(fault) => {
+                let _fault = self.fail(CallFault::Device);
+                return Err(fault);
+            }
         };
         let Ok(from) = String::from_str(self.alloc, from) else {
-            return Err(self.fail(CallFault::Memory));
+            let _fault = self.fail(CallFault::Memory);
+            return Err(RenameFault::Unknown);
         };
         let Ok(to) = String::from_str(self.alloc, to) else {
-            return Err(self.fail(CallFault::Memory));
+            let _fault = self.fail(CallFault::Memory);
+            return Err(RenameFault::Unknown);
         };
-        self.change(FolderChange::Renamed { from, to, text })
+        match self.change(FolderChange::Renamed { from, to, text }) {
+            Ok(()) => Ok(()),
+            Err(_) => Err(RenameFault::Unknown),
+        }
     }
 
     fn sync_folder(&mut self) -> Result<(), CallFault> {

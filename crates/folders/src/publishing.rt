@@ -1,13 +1,13 @@
 //! Publishes a file, so that a crash at any moment leaves what was there or the whole new file.
 
-ghost use Rattle.std.specs.Prelude.{◌≡◌, ◌≢◌, ◌≤◌, List, ℕ, true, None, Some, Err, OnOk, OnErr};
+ghost use Rattle.std.specs.Prelude.{◌≡◌, ◌≢◌, ◌⊎◌, ◌≤◌, List, ℕ, true, None, Some, Err, OnOk, OnErr};
 ghost use Rattle.byte_output.specs.Failures.{Rises};
 ghost use Rattle.folders.specs.declared.faults.CallFailed.{CallFailed};
 ghost use Rattle.folders.specs.Folder.{Only, Stays};
-ghost use Rattle.folders.specs.Publishing.{Replaces, HasOnly, IsWritten, IsCleared};
+ghost use Rattle.folders.specs.Publishing.{Replaces, RisesTwice, HasOnly, IsWritten, IsCleared};
 
 use crate::contents::Contents;
-use crate::faults::{CallFailed, CallFault, FolderCall, PublishFault};
+use crate::faults::{CallFailed, CallFault, FolderCall, PublishFault, RenameFault};
 use crate::folder::Folder;
 
 // Writes a text to a new file under this name, and syncs it.
@@ -74,6 +74,20 @@ fn write_draft<F: Folder, C: Contents>(
     Err(failed)
 }
 
+// Why a file was not published whose draft was not renamed.
+fn not_renamed(fault: RenameFault) -> PublishFault
+    ensures kept_out { (failed : CallFailed) → result ≡ PublishFault.NotKept failed → fault ≡ RenameFault.Gone }
+    ensures unknown { result ≢ PublishFault.SyncFolder }
+{
+    match fault {
+        RenameFault::Gone => PublishFault::NotKept(CallFailed {
+            call: FolderCall::Rename,
+            fault: CallFault::Device,
+        }),
+        RenameFault::Unknown => PublishFault::Rename,
+    }
+}
+
 // Renames a file, and syncs the folder. If the rename fails, the draft is removed.
 fn rename_draft<F: Folder>(folder: &mut F, draft: &str, name: &str) -> Result<(), PublishFault>
     requires { draft.now ≢ name.now }
@@ -81,16 +95,17 @@ fn rename_draft<F: Folder>(folder: &mut F, draft: &str, name: &str) -> Result<()
     ensures unsynced { F.has_model ≡ true → result ≡ Err PublishFault.SyncFolder → (text : List ℕ) → IsWritten F.model folder.old draft.now text → IsWritten F.model folder.new name.now text }
     ensures replaces { F.has_model ≡ true → (text : List ℕ) → IsWritten F.model folder.old draft.now text → Replaces F.model folder.old folder.new name.now text }
     ensures undone { F.has_model ≡ true → F.undoes_renames ≡ true → result ≡ Err PublishFault.Rename → (other : List ℕ) → other ≢ draft.now → Stays F.model folder.old folder.new other }
-    ensures late { (failed : CallFailed) → result ≢ Err (PublishFault.NotKept failed) }
+    ensures not_kept { F.has_model ≡ true → (failed : CallFailed) → result ≡ Err (PublishFault.NotKept failed) → (other : List ℕ) → other ≢ draft.now → Stays F.model folder.old folder.new other }
+    ensures cleared { F.has_model ≡ true → (failed : CallFailed) → result ≡ Err (PublishFault.NotKept failed) → RisesTwice (F.faults folder.old) (F.faults folder.new) ⊎ Only None (F.model.reads folder.new draft.now) }
     ensures others { F.has_model ≡ true → (other : List ℕ) → other ≢ draft.now → other ≢ name.now → Stays F.model folder.old folder.new other }
     ensures more { F.faults folder.old ≤ F.faults folder.new }
     ensures fault { OnErr result (Rises (F.faults folder.old) (F.faults folder.new)) }
 {
     match folder.rename(draft, name) {
         Ok(()) => {}
-        Err(_) => {
+        Err(fault) => {
             let _ = folder.remove(draft);
-            return Err(PublishFault::Rename);
+            return Err(not_renamed(fault));
         }
     }
     match folder.sync_folder() {
@@ -104,7 +119,8 @@ fn rename_draft<F: Folder>(folder: &mut F, draft: &str, name: &str) -> Result<()
 ///
 /// # Errors
 ///
-/// `NotKept` if a call before the rename fails. The draft is then left only if it cannot be removed.
+/// `NotKept` if a call before the rename fails, or the draft is gone by then. A draft is then left only if it cannot be
+/// removed.
 pub fn publish<F: Folder, C: Contents>(
     folder: &mut F,
     draft: &str,

@@ -6,7 +6,7 @@ ghost use Rattle.std.specs.Prelude.{false};
 use crate::samples::*;
 use archive_keepers::{FolderKeeper, draft_name};
 use archive_table::{KeepFault, Keeper};
-use folders::{CallFault, Folder, MemoryFolder};
+use folders::{CallFault, Folder, MemoryFolder, RenameFault};
 use std::alloc::Allocator;
 use std::io;
 use std::io::{ErrorKind, Write};
@@ -78,7 +78,7 @@ impl Folder for FullFolder {
         self.folder.sync(name, file.file)
     }
 
-    fn rename(&mut self, from: &str, to: &str) -> Result<(), CallFault> {
+    fn rename(&mut self, from: &str, to: &str) -> Result<(), RenameFault> {
         self.folder.rename(from, to)
     }
 

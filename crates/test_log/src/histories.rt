@@ -8,7 +8,7 @@ use archive_history::HistoryFolder;
 use archive_keepers::NoKeeper;
 use archive_log::ServerLog;
 use archive_table::Table;
-use folders::{CallFault, Folder, MemoryFolder};
+use folders::{CallFault, Folder, MemoryFolder, RenameFault};
 use log::Log;
 use log::sink::{Discard, Memory};
 use std::alloc::{Allocator, Global};
@@ -213,7 +213,7 @@ impl Folder for FullHistory {
         Ok(())
     }
 
-    fn rename(&mut self, _from: &str, _to: &str) -> Result<(), CallFault> {
+    fn rename(&mut self, _from: &str, _to: &str) -> Result<(), RenameFault> {
         Ok(())
     }
 

@@ -16,6 +16,10 @@ pub returns-in-Ok-clause-undone : goal.returns-in-Ok-clause-undone
 returns-in-Ok-clause-undone g c = λ modelled undoes is other ne.
     stays_then (c.write_draft.ensures.others modelled other ne) (c.rename_draft.ensures.undone modelled undoes is other ne)
 
+pub returns-in-Ok-clause-not_kept : goal.returns-in-Ok-clause-not_kept
+returns-in-Ok-clause-not_kept g c = λ modelled failed is other ne.
+    stays_then (c.write_draft.ensures.others modelled other ne) (c.rename_draft.ensures.not_kept modelled failed is other ne)
+
 pub returns-in-Ok-clause-unsynced : goal.returns-in-Ok-clause-unsynced
 returns-in-Ok-clause-unsynced g c = λ modelled is. c.rename_draft.ensures.unsynced modelled is (g.C.Contents.text c.args.contents.now) (c.in-Ok.ensures.written modelled)
 

@@ -1,6 +1,14 @@
-use Rattle.std.proofs.Common.{sym}
+use Rattle.std.proofs.Common.{sym, ap, Ok, Err, Result}
 use Rattle.folders.proofs.Steps.{stays_then, replaces_then, is_moved, stays_written, has_only}
 use Rattle.folders.proofs.publishing.rename_draft.Goals as goal
+
+abbrev fault_or : {T E : Type 0} → E → Result T E → E
+fault_or other (Ok done) = other
+fault_or other (Err fault) = fault
+
+pub returns-in-Err-clause-not_kept : goal.returns-in-Err-clause-not_kept
+returns-in-Err-clause-not_kept g c = λ modelled failed is other ne.
+    stays_then (c.in-Err.ensures.gone modelled (ap Err (c.not_renamed.ensures.kept_out failed (ap (fault_or (c.not_renamed.result)) is))) other ne) (c.remove.ensures.others modelled other ne)
 
 pub returns-in-Err-clause-replaces : goal.returns-in-Err-clause-replaces
 returns-in-Err-clause-replaces g c = λ modelled text written.
