@@ -219,12 +219,18 @@ def uploads_cost_their_bytes():
         check("the memory of pads", taken < 1.1 * received + 20e6)
 
 
+def most_records(server):
+    """Puts as many solutions as a file can have, and gets them. Returns how many they are."""
+    records = [record(level % 65535 + 1, password=b"%04d" % (level // 65535)) for level in range((33_553_919 - len(HEADER)) // 20)]
+    check("the put of 1.67 million records", server.put(file("most.tws", *records))[0] == 0)
+    check("a first get of them", server.get()[0] == 0)
+    return len(records)
+
+
 def a_put_that_changes_nothing_is_cheap():
     """With a collection of 1.67 million records neither a put that changes nothing nor a refused get costs much."""
-    records = [record(level % 65535 + 1, password=b"%04d" % (level // 65535)) for level in range((33_553_919 - len(HEADER)) // 20)]
     with Server() as server:
-        check("the put of 1.67 million records", server.put(file("most.tws", *records))[0] == 0)
-        check("a first get of them", server.get()[0] == 0)
+        most_records(server)
         block = HEADER + record(1, password=b"0000")
         puts, gets = [], []
         for _ in range(20):
@@ -242,6 +248,28 @@ def a_put_that_changes_nothing_is_cheap():
         print(f"1.67 million records: a put that changes nothing {1000 * puts[10]:.2f} ms, a request to read {1000 * gets[10]:.2f} ms")
         check_time("a put that changes nothing", puts[10] < 0.01)
         check_time("a request to read", gets[10] < 0.01)
+
+
+def large_collections_are_sent_to_few():
+    """Many ask for a collection of 1.67 million records, and follow nothing up. As many get it as may have lists of it; then the
+    first give way, and another gets in."""
+    with Server("--log") as server:
+        count = most_records(server)
+        ends = [end(f"127.0.0.{2 + k}") for k in range(40)]
+        for own in ends:
+            server.send(own, RRQ)
+        time.sleep(0.5)
+        opened = len(sockets_of(server.process.pid)) - 1
+        own, began = end("127.0.0.99", wait=1), time.monotonic()
+        answer = server.begin(own, RRQ, times=9)[0]
+        took = time.monotonic() - began
+        server.process.terminate()
+        _, said, _ = done(server.process)
+        print(f"40 gets of 1.67 million records: {opened} transfers; another's first block came after {took:.2f} s")
+        check("the transfers of a large collection", opened == 40_000_000 // count)
+        check("a get beside them", answer[:4] == b"\0\3\0\1")
+        check_time("the time of a get beside them", took < 5)
+        check("the log of those that were dropped", b"too many transfers of so large a collection" in said)
 
 
 def gets_write_before_they_dally():
@@ -396,6 +424,7 @@ def main():
         floods_slow_gets_down_no_more_than_threefold,
         uploads_cost_their_bytes,
         a_put_that_changes_nothing_is_cheap,
+        large_collections_are_sent_to_few,
         gets_write_before_they_dally,
         puts_stop_reading,
         drafts_that_are_no_files,

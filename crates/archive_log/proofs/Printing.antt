@@ -19,7 +19,7 @@ use Rattle.tws_file.specs.declared.«ruleset».Ruleset.TheVariants.{Lynx, Ms}
 use Rattle.tws_file.specs.declared.file_fault.FileFault.{FileFault}
 use Rattle.tws_file.specs.declared.file_fault.FileFault.TheVariants as fault
 use Rattle.archive_server.specs.declared.drop_cause.DropCause.{DropCause}
-use Rattle.archive_server.specs.declared.drop_cause.DropCause.TheVariants.{ManyTransfers, NotPutter}
+use Rattle.archive_server.specs.declared.drop_cause.DropCause.TheVariants.{ManyTransfers, LargeCollection, NotPutter}
 use Rattle.archive_table.specs.declared.step_event.FailureCause.{FailureCause}
 use Rattle.archive_table.specs.declared.step_event.FailureCause.TheVariants.{Refused, PeerError, TimedOut}
 use Rattle.archive_history.specs.declared.history_fault.HistoryFault.{HistoryFault}
@@ -165,6 +165,7 @@ cause_key why = (word (codes "why") refl, cause_plain why)
 
 drop_plain : (why : DropCause) → Plain (drop_text why)
 drop_plain ManyTransfers = word (codes "too many transfers of its host") refl
+drop_plain LargeCollection = word (codes "too many transfers of so large a collection") refl
 drop_plain NotPutter = word (codes "not allowed to put") refl
 
 folder_plain : (folder : Option (List ℕ)) → PlainPairs (folder_pairs folder)

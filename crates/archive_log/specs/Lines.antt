@@ -14,7 +14,7 @@ use Rattle.tws_file.specs.declared.file_fault.FileFault.{FileFault}
 use Rattle.tws_file.specs.declared.file_fault.FileFault.TheVariants as fault
 use Rattle.tws_file.specs.Words.{ruleset_name}
 use Rattle.archive_server.specs.declared.drop_cause.DropCause.{DropCause}
-use Rattle.archive_server.specs.declared.drop_cause.DropCause.TheVariants.{ManyTransfers, NotPutter}
+use Rattle.archive_server.specs.declared.drop_cause.DropCause.TheVariants.{ManyTransfers, LargeCollection, NotPutter}
 use Rattle.archive_table.specs.declared.step_event.FailureCause.{FailureCause}
 use Rattle.archive_table.specs.declared.step_event.FailureCause.TheVariants.{Refused, PeerError, TimedOut}
 use Rattle.byte_output.specs.Printable.{shown}
@@ -57,6 +57,7 @@ lost_text why (Some cause) = history_fault_text why ++ (codes ": " ++ shown caus
 -- why a request was dropped
 abbrev pub drop_text : DropCause → List ℕ
 drop_text ManyTransfers = codes "too many transfers of its host"
+drop_text LargeCollection = codes "too many transfers of so large a collection"
 drop_text NotPutter = codes "not allowed to put"
 
 -- ---- lines

@@ -131,6 +131,7 @@ fn drop_words(why: DropCause) -> &'static str
 {
     match why {
         DropCause::ManyTransfers => "too many transfers of its host",
+        DropCause::LargeCollection => "too many transfers of so large a collection",
         DropCause::NotPutter => "not allowed to put",
     }
 }

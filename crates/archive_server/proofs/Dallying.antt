@@ -26,7 +26,7 @@ use Rattle.archive_server.specs.declared.change.Change.{Change}
 use Rattle.archive_server.specs.declared.mode.Mode.{Mode}
 use Rattle.archive_server.specs.declared.mode.Mode.TheVariants.{Turn, Round}
 use Rattle.archive_server.specs.declared.timer.Timer.{Timer}
-use Rattle.archive_server.specs.Places.{victim}
+use Rattle.archive_server.specs.Places.{victim, has_memory}
 use Rattle.archive_server.specs.Timers.{ports_of, live_ports, is_quiet, due_by, is_due, gives_way, giving_ports, victim_ports, late_ports, HasGivenWay, Tracks}
 use Rattle.archive_server.proofs.Ports.{at_is, remove_port}
 use Rattle.archive_server.proofs.Transfers.{server_timeout_step}
@@ -321,7 +321,7 @@ none_left now settled policies change timers s new tracks fits falls full port d
     let more : 1 ≤ left_of_port port new = some_left (transfer_at port new) done (IfSome-lookup_from_All (λ (t : Transfer). IsEnd t.end) (at_port port) new.live fits.ends) in
     let was = left_dallies (transfer_at port s) (omega (arith, more, falls.left port)) in
     let all_taken : has_slot s ≡ false = still_full (length new.live) (length s.live) falls.few full in
-    let way : gives_way mode port s ≡ true = ap (λ b. not b && is_dallying port s) all_taken ∙ was.2 in
+    let way : gives_way mode port s ≡ true = ap (λ b. not (b && has_memory s) && is_dallying port s) all_taken ∙ was.2 in
     let way_of : (t : Timer) → t.port ≡ port → gives_way mode t.port s ≡ true = λ t is. ap (λ (p : ℕ). gives_way mode p s) is ∙ way in
     let here : 1 ≤ count_by (λ p. p == port) (ports_of timers) = subst (λ (ps : List ℕ). 1 ≤ count_by (λ p. p == port) ps) (sym tracks.tracks) (count_found port s.live was.0 was.1) in
     let late = λ (t : Timer). is_due (due_by mode (is_quiet change)) t || gives_way mode t.port s in

@@ -1,7 +1,8 @@
 -- Who has the places, and which transfer gives way when they run out.
-use Rattle.std.specs.Prelude.{ℕ, ◌+◌, ◌-◌, ◌*◌, ◌/◌, ◌^◌, ◌==◌, ◌&&◌, ◌||◌, not, nat_lt, nat_le, Bool, false, List, fold, count_by, Option, None, Some, is_some, if◌then◌else◌}
+use Rattle.std.specs.Prelude.{ℕ, ◌+◌, ◌-◌, ◌*◌, ◌/◌, ◌^◌, ◌==◌, ◌&&◌, ◌||◌, not, nat_lt, nat_le, Bool, false, List, fold, count_by, max, length, Option, None, Some, is_some, if◌then◌else◌}
 use Rattle.tftp_packet.specs.declared.endpoint.Endpoint.{Endpoint}
 use Rattle.archive_table.specs.Table.{Table, has_slot, is_dallying, peer_at}
+use Rattle.archive_server.specs.declared.limits.TheConstants.{SENT_ENTRIES}
 use Rattle.archive_wire.specs.declared.limits.TheConstants.{TIMEOUT}
 use Rattle.archive_server.specs.declared.limits.TheConstants.{PATIENCE}
 use Rattle.archive_server.specs.declared.change.Change.{Change}
@@ -33,6 +34,20 @@ count_from host timers s = count_by (λ t. counts_for host s t.port) timers
 abbrev pub has_room : (host per_host : ℕ) → List Timer → Table → Bool
 has_room host per_host timers s = is_loopback host || nat_lt (count_from host timers s) per_host
 
+-- ---- the places of all
+
+-- how many solutions the larger collection has
+abbrev pub most_entries : Table → ℕ
+most_entries s = max (length s.maps.lynx.entries) (length s.maps.ms.entries)
+
+-- Whether one more transfer may have a list of the larger collection: all lists together have at most so many entries.
+abbrev pub has_memory : Table → Bool
+has_memory s = nat_lt (length s.live) (SENT_ENTRIES / max (most_entries s) 1)
+
+-- whether there is a place for one more transfer
+abbrev pub has_place : Table → Bool
+has_place s = has_slot s && has_memory s
+
 -- ---- how slow a transfer is
 
 -- For how many seconds it has been live, once that is one.
@@ -52,7 +67,7 @@ rank now t = t.reached * 1000 / has_lived now t
 
 -- all places are taken, and no transfer dallies
 abbrev pub is_full : List Timer → Table → Bool
-is_full timers s = not (has_slot s) && (count_by (λ t. is_dallying t.port s) timers == 0)
+is_full timers s = not (has_place s) && (count_by (λ t. is_dallying t.port s) timers == 0)
 
 -- the host whose datagram was just refused, if it has no place left
 abbrev pub crowded_host : Change → (per_host : ℕ) → List Timer → Table → Option ℕ

@@ -9,7 +9,7 @@ use Rattle.archive_server.specs.declared.mode.Mode.{Mode}
 use Rattle.archive_server.specs.declared.mode.Mode.TheVariants.{Turn, Round}
 use Rattle.archive_wire.specs.declared.limits.TheConstants.{QUIET_TURNS, TIMEOUT}
 use Rattle.archive_server.specs.declared.timer.Timer.{Timer}
-use Rattle.archive_server.specs.Places.{victim}
+use Rattle.archive_server.specs.Places.{has_place, victim}
 
 abbrev pub ports_of : List Timer → List ℕ
 ports_of timers = map (λ t. t.port) timers
@@ -134,7 +134,7 @@ due_by (Round now settled policies) quiet = settled
 -- While all places are taken, a transfer that dallies gives way.
 abbrev pub gives_way : Mode → (port : ℕ) → Table → Bool
 gives_way Turn port s = false
-gives_way (Round now settled policies) port s = not (has_slot s) && is_dallying port s
+gives_way (Round now settled policies) port s = not (has_place s) && is_dallying port s
 
 abbrev pub is_due : Option ℕ → Timer → Bool
 is_due (Some now) t = nat_le t.due now

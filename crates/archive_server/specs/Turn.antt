@@ -23,7 +23,7 @@ use Rattle.archive_server.specs.declared.policies.Policies.{Policies}
 use Rattle.archive_server.specs.declared.putters.Putters.{Putters}
 use Rattle.archive_server.specs.declared.putters.Putters.TheVariants.{All, Hosts}
 use Rattle.archive_server.specs.declared.timer.Timer.{Timer}
-use Rattle.archive_server.specs.Places.{has_room}
+use Rattle.archive_server.specs.Places.{has_room, has_memory}
 use Rattle.archive_server.specs.Timers.{timed_out, timers_after, late_ports, restart, earliest}
 use Rattle.archive_wire.specs.Wire.{Entry, opened, closed, came, quiet, failed, waited, Grows, Replies, Receipt, datagram, nothing, fault, sendings}
 
@@ -243,12 +243,12 @@ may_ask putters host (Ok (ack n)) = false
 may_ask putters host (Ok (error code text)) = false
 may_ask putters host (Err e) = false
 
--- A round lets in only requests, a put only from a host that may put, and only from a host that has fewer transfers than it
--- may have, apart from those that dally.
+-- A round lets in only requests, a put only from a host that may put, only from a host that has fewer transfers than it may
+-- have, apart from those that dally, and only while one more transfer may have a list of what it sends.
 abbrev pub admits : Mode → List Timer → Receipt → Table → Bool
 admits Turn timers receipt s = true
 admits (Round now settled policies) timers (datagram from bytes) s =
-    may_ask policies.putters from.host (decode_bytes bytes) && has_room from.host policies.per_host timers s
+    may_ask policies.putters from.host (decode_bytes bytes) && has_room from.host policies.per_host timers s && has_memory s
 admits (Round now settled policies) timers nothing s = true
 admits (Round now settled policies) timers fault s = true
 

@@ -5,6 +5,8 @@
 pub enum DropCause {
     /// Its host has as many transfers as it may have.
     ManyTransfers,
+    /// As many transfers are live as may have lists of collections so large.
+    LargeCollection,
     /// Its host may not put.
     NotPutter,
 }

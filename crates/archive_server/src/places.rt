@@ -1,10 +1,10 @@
 //! Who has the places, and which transfer gives way when they run out.
 
 ghost use Rattle.std.specs.Prelude.{◌≡◌, ◌<◌};
-ghost use Rattle.archive_server.specs.Places.{counts_for, count_from, has_room, has_lived, may_go as can_go, rank as rank_of, slower_of, is_full, crowded_host, is_of, is_crowded, with_candidate, slowest, slowest_if, port_of, victim};
+ghost use Rattle.archive_server.specs.Places.{counts_for, count_from, has_room, most_entries, has_memory as memory_left, has_place as place_left, has_lived, may_go as can_go, rank as rank_of, slower_of, is_full, crowded_host, is_of, is_crowded, with_candidate, slowest, slowest_if, port_of, victim};
 
 use crate::change::Change;
-use crate::limits::PATIENCE;
+use crate::limits::{PATIENCE, SENT_ENTRIES};
 use crate::mode::Mode;
 use crate::timer::Timer;
 use crate::timers::Timers;
@@ -12,6 +12,7 @@ use archive_table::{LIVE, Table};
 use archive_wire::TIMEOUT;
 use std::alloc::Allocator;
 use tftp_packet::Endpoint;
+use tws_file::Ruleset;
 
 /// A transfer that may give way. The lower its rank, the slower it is.
 #[derive(Clone, Copy)]
@@ -20,6 +21,28 @@ pub(crate) struct Candidate {
     pub(crate) rank: u64,
     /// Its port.
     pub(crate) port: u16,
+}
+
+// How many solutions the larger collection has.
+fn most_entries<A: Allocator + Copy>(table: &Table<A>) -> usize
+    ensures { result ≡ most_entries table.now }
+{
+    let lynx = table.collection(Ruleset::Lynx).len();
+    lynx.max(table.collection(Ruleset::Ms).len())
+}
+
+/// Whether one more transfer may have a list of the larger collection.
+pub(crate) fn has_memory<A: Allocator + Copy>(table: &Table<A>) -> bool
+    ensures { result ≡ memory_left table.now }
+{
+    table.live() < SENT_ENTRIES / most_entries(table).max(1)
+}
+
+/// Whether there is a place for one more transfer.
+pub(crate) fn has_place<A: Allocator + Copy>(table: &Table<A>) -> bool
+    ensures { result ≡ place_left table.now }
+{
+    table.live() < LIVE && has_memory(table)
 }
 
 // For how many seconds a transfer has been live, once that is one.
@@ -157,7 +180,7 @@ impl Timers {
         ensures { result ≡ is_full self.now table.now }
     {
         let timers = self.as_slice();
-        table.live() >= LIVE
+        !has_place(table)
             && timers
                 .iter()
                 .filter(|timer| table.is_dallying(timer.port))

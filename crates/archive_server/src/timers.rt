@@ -7,6 +7,7 @@ ghost use Rattle.archive_server.specs.Timers.{with_timer, without_timer, with_du
 use crate::change::Change;
 use crate::limits::{ALL_MISSES, LATE};
 use crate::mode::Mode;
+use crate::places::has_place;
 use crate::timer::Timer;
 use archive_table::{LIVE, Table};
 use arrayvec::ArrayVec;
@@ -140,7 +141,7 @@ fn gives_way<A: Allocator + Copy>(mode: Mode, port: u16, table: &Table<A>) -> bo
 {
     match mode {
         Mode::Turn => false,
-        Mode::Round { .. } => table.live() >= LIVE && table.is_dallying(port),
+        Mode::Round { .. } => !has_place(table) && table.is_dallying(port),
     }
 }
 

@@ -11,6 +11,7 @@ ghost use Rattle.archive_server.specs.Turn.{transfer_visit, transfer_asks, timeo
 use crate::change::Change;
 use crate::drop_cause::DropCause;
 use crate::mode::Mode;
+use crate::places::has_memory;
 use crate::putters::Putters;
 use crate::server_observer::ServerObserver;
 use crate::timers::Timers;
@@ -219,6 +220,7 @@ fn is_admitted<A: Allocator + Copy>(
         Mode::Round { policies, .. } => {
             may_ask(&policies.putters, from.host, bytes)
                 && timers.has_room(from.host, policies.per_host, table)
+                && has_memory(table)
         }
     }
 }
@@ -240,7 +242,7 @@ pub(crate) fn visit_request<A: Allocator + Copy, W: Wire, O: ServerObserver>(
             if is_admitted(table, timers, mode, from, &buffer[..count]) {
                 answer_request(table, wire, observer, from, &buffer[..count])
             } else {
-                observe_drop(observer, mode, from, &buffer[..count]);
+                observe_drop(observer, table, mode, from, &buffer[..count]);
                 Visit {
                     taken: false,
                     change: Change::Dropped(from.host),
@@ -253,14 +255,24 @@ pub(crate) fn visit_request<A: Allocator + Copy, W: Wire, O: ServerObserver>(
 }
 
 // Notifies an observer of a datagram at the request port that was not admitted, if it is a request.
-fn observe_drop<O: ServerObserver>(observer: &mut O, mode: Mode, from: Endpoint, bytes: &[u8]) {
+fn observe_drop<A: Allocator + Copy, O: ServerObserver>(
+    observer: &mut O,
+    table: &Table<A>,
+    mode: Mode,
+    from: Endpoint,
+    bytes: &[u8],
+) {
     let Mode::Round { policies, .. } = mode else {
         return;
     };
-    if may_ask(&policies.putters, from.host, bytes) {
+    if !may_ask(&policies.putters, from.host, bytes) {
+        if is_request(bytes) {
+            observer.on_dropped(from, DropCause::NotPutter);
+        }
+    } else if has_memory(table) {
         observer.on_dropped(from, DropCause::ManyTransfers);
-    } else if is_request(bytes) {
-        observer.on_dropped(from, DropCause::NotPutter);
+    } else {
+        observer.on_dropped(from, DropCause::LargeCollection);
     }
 }
 
