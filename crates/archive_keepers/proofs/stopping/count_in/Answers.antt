@@ -1,4 +1,4 @@
-use Rattle.std.proofs.Common.{◌≡◌, ◌+◌, ℕ, Bool, cond, sym, ap, arith}
+use Rattle.std.proofs.Common.{◌≡◌, ◌+◌, ℕ, Bool, cond, ap, arith}
 use Rattle.archive_keepers.proofs.Cutting.{counts_all, counts_more, none_not_some}
 use Rattle.archive_keepers.proofs.stopping.count_in.Goals as goal
 
