@@ -17,7 +17,7 @@ use Rattle.command_line.specs.declared.tool_fault.ToolFault.{ToolFault}
 use Rattle.archive_server.specs.declared.policies.Policies.{Policies}
 use Rattle.archive_server.specs.declared.putters.Putters.{Putters}
 use Rattle.archive_server.specs.declared.putters.Putters.TheVariants.{All, Hosts}
-use Rattle.archive_commands.specs.Address.{IsAddress, IsNoAddress}
+use Rattle.archive_commands.specs.Address.{IsAddress}
 use Rattle.archive_commands.specs.Hosts.{IsNoList, ListsHosts}
 use Rattle.archive_commands.specs.Ports.{ArePorts}
 use Rattle.command_line.specs.Arguments.{HasFlag}
