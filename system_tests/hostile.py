@@ -251,8 +251,8 @@ def a_put_that_changes_nothing_is_cheap():
 
 
 def large_collections_are_sent_to_few():
-    """Many ask for a collection of 1.67 million records, and follow nothing up. As many get it as may have lists of it; then the
-    first give way, and another gets in."""
+    """Many ask for a collection of 1.67 million records, and follow nothing up. As many get it as may have lists of it; then one
+    gives way, and another gets in."""
     with Server("--log") as server:
         count = most_records(server)
         ends = [end(f"127.0.0.{2 + k}") for k in range(40)]

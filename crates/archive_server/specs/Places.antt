@@ -40,7 +40,8 @@ has_room host per_host timers s = is_loopback host || nat_lt (count_from host ti
 abbrev pub most_entries : Table → ℕ
 most_entries s = max (length s.maps.lynx.entries) (length s.maps.ms.entries)
 
--- Whether one more transfer may have a list of the larger collection: all lists together have at most so many entries.
+-- Whether one more transfer may have a list of the larger collection: as many lists of it as there are transfers then have at
+-- most so many entries.
 abbrev pub has_memory : Table → Bool
 has_memory s = nat_lt (length s.live) (SENT_ENTRIES / max (most_entries s) 1)
 

@@ -10,7 +10,7 @@ pub(crate) const ALL_MISSES: usize = MISSES as usize;
 /// taken, and one more transfer may give way.
 pub(crate) const LATE: usize = 2 * LIVE + ALL_MISSES;
 
-/// How many entries the lists of all that is sent have at most. An entry has 24 bytes.
+/// How many entries the lists of all that is sent have at most. An entry has 16 bytes.
 pub(crate) const SENT_ENTRIES: usize = 40_000_000;
 
 /// For how many seconds a transfer is left alone that moves more than a block a second.

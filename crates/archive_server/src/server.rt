@@ -205,8 +205,8 @@ impl<A: Allocator + Copy> Server<A> {
     ///
     /// A datagram at the request port that is not a request, or that the policies do not let in, opens no port. A transfer
     /// times out `TIMEOUT` milliseconds after it was opened or last sent to its peer, once all that had arrived by then was
-    /// handed out. When `LIVE` transfers are live, those that dally give way, or else the slowest one does; if a host asks for
-    /// more than it may have, its slowest does.
+    /// handed out. When `LIVE` transfers are live, or as many as may have lists of the larger collection, those that dally give
+    /// way, or else the slowest one does; if a host asks for more than it may have, its slowest does.
     ///
     /// The observer is notified of each step, time-outs too, after the step's calls of the wire, and of each request that is
     /// dropped. It changes nothing.

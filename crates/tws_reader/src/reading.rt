@@ -149,7 +149,9 @@ fn after_record(bytes: &[u8]) -> Option<&[u8]>
 }
 
 // How many records the bytes begin with, by their sizes alone.
-fn count_records(bytes: &[u8]) -> usize {
+fn count_records(bytes: &[u8]) -> usize
+    ensures { result ≤ length bytes.now }
+{
     let mut count: usize = 0;
     let mut rest = bytes;
     while let Some(after) = after_record(rest) {
