@@ -42,9 +42,15 @@ fn counts_between<A: Allocator + Copy>(
     };
     let theirs = match read_file(alloc, second) {
         Ok(theirs) => theirs,
-        Err(fault) => return Err(NewsFault::Second(fault)),
+        Err(fault) => {
+            drop(mine);
+            return Err(NewsFault::Second(fault));
+        }
     };
-    match compare(alloc, &mine, &theirs) {
+    let rows = compare(alloc, &mine, &theirs);
+    drop(mine);
+    drop(theirs);
+    match rows {
         Ok(rows) => Ok(Counts::of(&rows)),
         Err(CompareFault::Rulesets) => Err(NewsFault::Rulesets),
         Err(CompareFault::Memory) => Err(NewsFault::Memory),

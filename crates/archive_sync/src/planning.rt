@@ -44,17 +44,25 @@ pub fn plan<A: Allocator + Copy>(
     };
     let theirs = match read_file(alloc, second) {
         Ok(theirs) => theirs,
-        Err(fault) => return Err(NewsFault::Second(fault)),
+        Err(fault) => {
+            drop(mine);
+            return Err(NewsFault::Second(fault));
+        }
     };
-    let part = match better(alloc, mine, &theirs) {
+    let part = better(alloc, mine, &theirs);
+    drop(theirs);
+    let part = match part {
         Ok(part) => part,
         Err(CompareFault::Rulesets) => return Err(NewsFault::Rulesets),
         Err(CompareFault::Memory) => return Err(NewsFault::Memory),
     };
     if part.is_empty() {
+        drop(part);
         return Ok(None);
     }
-    match text_of(alloc, &part) {
+    let text = text_of(alloc, &part);
+    drop(part);
+    match text {
         Ok(text) => Ok(Some(text)),
         Err(_) => Err(NewsFault::Memory),
     }
