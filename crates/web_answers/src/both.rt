@@ -1,6 +1,6 @@
 //! A text of two files of one ruleset.
 
-ghost use Rattle.std.specs.Prelude.{◌≡◌, IfOk, IfErr};
+ghost use Rattle.std.specs.Prelude.{◌≡◌, ℕ, List, IfOk, IfErr};
 ghost use Rattle.tws_best.specs.Best.{collection_text};
 ghost use Rattle.tws_compare.specs.Compare.{better_of, rows_of};
 ghost use Rattle.tws_compare.specs.Lines.{comparison_text};
@@ -8,7 +8,7 @@ ghost use Rattle.tws_file.specs.Text.{IsText};
 ghost use Rattle.web_answers.specs.Answers.{AnswersBest, AnswersBoth, Fails};
 
 use crate::web_fault::WebFault;
-use std::alloc::Allocator;
+use std::alloc::{AllocError, Allocator};
 use tws_best::Collection;
 use tws_compare::{CompareFault, better as better_of_two, compare, comparison_text};
 use tws_file::TwsFile;
@@ -31,9 +31,14 @@ fn read_both<A: Allocator + Copy>(
     };
     let theirs = match read_file(alloc, second) {
         Ok(file) => file,
-        Err(fault) => return Err(WebFault::second(fault)),
+        Err(fault) => {
+            drop(mine);
+            return Err(WebFault::second(fault));
+        }
     };
     if mine.ruleset != theirs.ruleset {
+        drop(mine);
+        drop(theirs);
         return Err(WebFault::Rulesets);
     }
     Ok((mine, theirs))
@@ -54,10 +59,14 @@ pub fn compared<A: Allocator + Copy>(
     ensures fails { IfErr result (Fails first.now second.now) }
 {
     let (mine, theirs) = read_both(alloc, first, second)?;
-    match compare(alloc, &mine, &theirs) {
+    let rows = compare(alloc, &mine, &theirs);
+    drop(mine);
+    drop(theirs);
+    match rows {
         Ok(rows) => {
-            let text = comparison_text(alloc, &rows)?;
-            Ok(text.into_bytes())
+            let text = comparison_text(alloc, &rows);
+            drop(rows);
+            Ok(text?.into_bytes())
         }
         Err(CompareFault::Rulesets) => Err(WebFault::Rulesets),
         Err(CompareFault::Memory) => Err(WebFault::Memory),
@@ -80,14 +89,37 @@ pub fn better<A: Allocator + Copy>(
     ensures fails { IfErr result (Fails first.now second.now) }
 {
     let (mine, theirs) = read_both(alloc, first, second)?;
-    match better_of_two(alloc, mine, &theirs) {
+    let collection = better_of_two(alloc, mine, &theirs);
+    drop(theirs);
+    match collection {
         Ok(collection) => {
             let mut text = Vec::new(alloc);
-            collection.write_text(&mut text)?;
+            let written = collection.write_text(&mut text);
+            drop(collection);
+            written?;
             Ok(text)
         }
         Err(CompareFault::Rulesets) => Err(WebFault::Rulesets),
         Err(CompareFault::Memory) => Err(WebFault::Memory),
+    }
+}
+
+// The text of the collection of the best solutions of both files.
+fn best_of<A: Allocator + Copy>(
+    alloc: A,
+    mine: &TwsFile<A>,
+    theirs: &TwsFile<A>,
+) -> Result<Vec<u8, A>, AllocError>
+    ensures { (first : List ℕ) → (second : List ℕ) → IsText first mine.now → IsText second theirs.now →
+        mine.now.ruleset ≡ theirs.now.ruleset → IfOk result (λ text. AnswersBest first second text.items) }
+{
+    let mut collection = Collection::new(alloc, mine.ruleset);
+    collection.merge(mine)?;
+    collection.merge(theirs)?;
+    let mut text = Vec::new(alloc);
+    match collection.write_text(&mut text) {
+        Ok(()) => Ok(text),
+        Err(_) => Err(AllocError),
     }
 }
 
@@ -106,10 +138,8 @@ pub fn best<A: Allocator + Copy>(
     ensures fails { IfErr result (Fails first.now second.now) }
 {
     let (mine, theirs) = read_both(alloc, first, second)?;
-    let mut collection = Collection::new(alloc, mine.ruleset);
-    collection.merge(&mine)?;
-    collection.merge(&theirs)?;
-    let mut text = Vec::new(alloc);
-    collection.write_text(&mut text)?;
-    Ok(text)
+    let text = best_of(alloc, &mine, &theirs);
+    drop(mine);
+    drop(theirs);
+    Ok(text?)
 }

@@ -40,7 +40,9 @@ pub fn csv<A: Allocator + Copy>(alloc: A, bytes: &[u8]) -> Result<Vec<u8, A>, We
     let mut text = Vec::new(alloc);
     // Room for the whole text at once is touched once. Where it is refused, the text grows as it needs to.
     let _ = text.reserve(file.records.len().saturating_add(1).saturating_mul(LINE));
-    write_csv(alloc, &file, &mut text)?;
+    let written = write_csv(alloc, &file, &mut text);
+    drop(file);
+    written?;
     Ok(text)
 }
 
@@ -57,7 +59,9 @@ pub fn page<A: Allocator + Copy>(alloc: A, bytes: &[u8]) -> Result<Vec<u8, A>, W
     let mut text = Vec::new(alloc);
     let mut files = Vec::new(alloc);
     files.push(file)?;
-    write_page(alloc, &files, &mut text)?;
+    let written = write_page(alloc, &files, &mut text);
+    drop(files);
+    written?;
     Ok(text)
 }
 
@@ -71,8 +75,12 @@ pub fn packed<A: Allocator + Copy>(alloc: A, bytes: &[u8]) -> Result<Vec<u8, A>,
     ensures fails { IfErr result (FailsAlone bytes.now) }
 {
     let file = read(alloc, bytes)?;
-    let packed = pack(alloc, &file)?;
+    let packed = pack(alloc, &file);
+    drop(file);
+    let packed = packed?;
     let mut text = Vec::new(alloc);
-    write_file(&packed, &mut text)?;
+    let written = write_file(&packed, &mut text);
+    drop(packed);
+    written?;
     Ok(text)
 }
