@@ -1,1 +1,4 @@
 mod Recording
+mod Ranges
+mod Passing
+mod Unpadding

@@ -1,3 +1,4 @@
 pub mod Times
 pub mod HistoryFault
+pub mod Kept
 pub mod History

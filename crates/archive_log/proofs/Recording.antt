@@ -9,6 +9,7 @@ use Rattle.folders.specs.Folder.{FolderModel}
 use Rattle.archive_history.specs.declared.history_fault.HistoryFault.{HistoryFault}
 use Rattle.archive_history.specs.declared.history_fault.HistoryFault.TheVariants.{Day, NoFreeName, LookUp, Create, Write, Sync, Rename, SyncFolder, Memory}
 use Rattle.archive_history.specs.History.{AddsNothing, Records, RecordsForGood, stem_text}
+use Rattle.archive_history.specs.Kept.{without_pads}
 use Rattle.archive_history.specs.Times.{ShowsMoment}
 use Rattle.archive_log.specs.ServerLog.{KeepsFile, RecordsTaken}
 
@@ -18,7 +19,7 @@ readable_by fault is not-found some = let both : false ≡ true = sym not-found 
 
 -- whatever a record returns, it adds the file or nothing
 pub keeps_by : {H : Type 0} (m : FolderModel H) (r : Result (Unit {0}) HistoryFault) (t : Taken) (merged : Merged) (time : List ℕ) (rules : Ruleset) (stem text : List ℕ) (old new : H) →
-    ShowsMoment time → (IsSome merged.fault → ⊥) → ruleset_in t.file ≡ Some rules → stem ≡ stem_text time t.peer rules → text ≡ t.file → OnOk r (RecordsForGood m stem text old new) →
+    ShowsMoment time → (IsSome merged.fault → ⊥) → ruleset_in t.file ≡ Some rules → stem ≡ stem_text time t.peer rules → text ≡ without_pads t.file → OnOk r (RecordsForGood m stem text old new) →
     (r ≡ Err SyncFolder → Records m stem text old new) → IfErr r (λ e. e ≢ SyncFolder → AddsNothing m old new) → KeepsFile m t merged (Some old) (Some new)
 keeps_by {H} m r t merged time rules stem text old new moment readable rules-is stem-is text-is ok unsynced failed = record {
   adds = inr (record { before = old; was = refl; after = new; is = refl; adds = by r ok unsynced failed });
@@ -32,7 +33,7 @@ keeps_by {H} m r t merged time rules stem text old new moment readable rules-is 
       rules = rules;
       rules_is = rules-is;
       records =
-          subst (λ (s : List ℕ). Records m s t.file old new) stem-is
+          subst (λ (s : List ℕ). Records m s (without_pads t.file) old new) stem-is
           (subst (λ (x : List ℕ). Records m stem x old new) text-is records);
     })
 

@@ -10,6 +10,7 @@ use Rattle.archive_table.specs.Table.{Taken}
 use Rattle.archive_table.specs.Events.{Reported}
 use Rattle.folders.specs.Folder.{FolderModel}
 use Rattle.archive_history.specs.History.{AddsNothing, Records, stem_text}
+use Rattle.archive_history.specs.Kept.{without_pads}
 use Rattle.archive_history.specs.Times.{ShowsMoment}
 use Rattle.archive_log.specs.declared.logged_transfer.LoggedTransfer.{LoggedTransfer}
 use Rattle.archive_log.specs.declared.line_budget.LineBudget.{LineBudget}
@@ -41,13 +42,13 @@ pub record FollowsEvent {H : Type 0} (e : LogEvent) (old new : Logged H) : Type 
 
 -- ---- the history
 
--- a file that was taken was added, under a name of some moment, its peer and the ruleset that its fifth byte says
+-- a file that was taken was added without its pads, under a name of some moment, its peer and the ruleset that its fifth byte says
 pub record RecordsTaken {H : Type 0} (m : FolderModel H) (t : Taken) (old new : H) : Type 0 where
   pub time : List ℕ
   pub moment : ShowsMoment time
   pub rules : Ruleset
   pub rules_is : ruleset_in t.file ≡ Some rules
-  pub records : Records m (stem_text time t.peer rules) t.file old new
+  pub records : Records m (stem_text time t.peer rules) (without_pads t.file) old new
 
 -- a history after a file was to be added
 pub record Recorded {H : Type 0} (m : FolderModel H) (t : Taken) (old new : Option H) : Type 0 where

@@ -22,7 +22,7 @@ returns-clause-recorded g c = λ modelled.
       number.0,
       adds_by g.F.Folder.model c.args.stem.now number.0 c.as_str-3.ensures.value draft-is number.1 (c.in_ok-name.ensures.free modelled) (c.free_name.ensures.same modelled)
           (c.publish_file.ensures.others modelled) has.now,
-      subst (λ (name : List ℕ). Only (Some c.args.file.now) (g.F.Folder.model.leaves c.publish_file.new.folder name)) (c.as_str-3.ensures.value ∙ number.1) has.left,
+      subst (λ (name : List ℕ). Only (Some (g.C.Contents.text c.args.text.now)) (g.F.Folder.model.leaves c.publish_file.new.folder name)) (c.as_str-3.ensures.value ∙ number.1) has.left,
     ))
     (c.publish_file.ensures.kept modelled)
 
