@@ -2,3 +2,4 @@ mod Recording
 mod Ranges
 mod Passing
 mod Unpadding
+mod Comparing
