@@ -95,13 +95,16 @@ def a_full_disk_loses_nothing():
             subprocess.run(["umount", folder])
 
 
-def puts_for(seconds, server, text):
-    """Puts a file of one block again and again, without a pause."""
-    own, until = end(), time.monotonic() + seconds
+def puts_for(seconds, server, slower):
+    """Puts files of one block, of solutions that take so many ticks and more, without a pause. Returns how many they are."""
+    own, until, count = end(), time.monotonic() + seconds, 0
     while time.monotonic() < until:
         port = server.begin(own, WRQ)[1]
+        text = HEADER + record(1, ticks=slower + count, moves=b"\0" * 400)
         own.sendto(b"\0\3\0\1" + text, ("127.0.0.1", port))
         own.recv(2000)
+        count += 1
+    return count
 
 
 def on_the_disk(folder):
@@ -117,9 +120,9 @@ def a_history_has_a_limit():
     with Server("--history", folder, "--history-limit", 1_000_000) as server:
         check("a put while the history has room", server.put(good)[0] == 0)
         # A count holds for a second, or longer if it took long.
-        seconds, before, size = 0, -1, 0
+        seconds, before, size, count = 0, -1, 0, 0
         while size != before and seconds < 30:
-            puts_for(1, server, loaded(good))
+            count += puts_for(1, server, 101 + count)
             seconds, before, size = seconds + 1, size, on_the_disk(folder)
         print(f"files without a pause, and a history of at most 1 MB: {size / 1e6:.1f} MB, and no more after {seconds - 1} s")
         check("a history with a limit", size >= 1_000_000 and seconds < 30)

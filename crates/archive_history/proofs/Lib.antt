@@ -1,1 +1,5 @@
 mod Recording
+mod Ranges
+mod Passing
+mod Unpadding
+mod Comparing

@@ -1,5 +1,5 @@
 -- The history: a folder with each solution file that was taken, in a folder for each day.
-use Rattle.std.specs.Prelude.{◌≢◌, ℕ, ◌<◌, ◌==◌, List, ◌++◌, None, Some, codes, decimal, if◌then◌else◌}
+use Rattle.std.specs.Prelude.{◌≡◌, ◌≢◌, ℕ, ◌<◌, ◌==◌, true, List, ◌++◌, None, Some, codes, decimal, if◌then◌else◌}
 use Rattle.std.specs.Int.{w32, to_be_bytes}
 use Rattle.std.specs.Net.Text.{ipv4_text}
 use Rattle.tftp_packet.specs.declared.endpoint.Endpoint.{Endpoint}
@@ -7,6 +7,7 @@ use Rattle.tws_file.specs.declared.«ruleset».Ruleset.{Ruleset}
 use Rattle.tws_file.specs.Words.{ruleset_name}
 use Rattle.folders.specs.Folder.{FolderModel, Only, Stays}
 use Rattle.archive_history.specs.declared.history.TheConstants.{NAMES}
+use Rattle.archive_history.specs.Markers.{IsMarker, is_copy_name, name_in_day}
 use Rattle.archive_history.specs.Times.{compact, day_of}
 
 -- ---- names
@@ -30,24 +31,32 @@ draft_of name = name ++ codes ".new"
 
 -- ---- what a record does to a folder
 
--- a file was added, and nothing else but its draft was touched
-pub record Adds {D : Type 0} (m : FolderModel D) (name text : List ℕ) (old new : D) : Type 0 where
+-- A file was added, and nothing else was touched but its draft and a marker of its day.
+pub record Adds {D : Type 0} (m : FolderModel D) (day name text : List ℕ) (old new : D) : Type 0 where
   pub was_free : m.reads old name None
   pub added : Only (Some text) (m.reads new name)
-  pub others : (other : List ℕ) → other ≢ name → other ≢ draft_of name → Stays m old new other
+  pub others : (other : List ℕ) → other ≢ name → other ≢ draft_of name → (IsMarker day other → ⊥) → Stays m old new other
 
 -- all names that such a file can have are in use
 abbrev pub HasNoFreeName : {D : Type 0} (m : FolderModel D) (stem : List ℕ) (old : D) → Type 0
 HasNoFreeName m stem old = (number : ℕ) → number < NAMES → (text : List ℕ) × m.reads old (numbered stem number) (Some text)
 
 -- a file was added under one of its names
-abbrev pub Records : {D : Type 0} (m : FolderModel D) (stem text : List ℕ) (old new : D) → Type 0
-Records m stem text old new = (number : ℕ) × Adds m (numbered stem number) text old new
+abbrev pub Records : {D : Type 0} (m : FolderModel D) (day stem text : List ℕ) (old new : D) → Type 0
+Records m day stem text old new = (number : ℕ) × Adds m day (numbered stem number) text old new
 
 -- the same, and a crash leaves it there
-abbrev pub RecordsForGood : {D : Type 0} (m : FolderModel D) (stem text : List ℕ) (old new : D) → Type 0
-RecordsForGood m stem text old new = (number : ℕ) × Adds m (numbered stem number) text old new × Only (Some text) (m.leaves new (numbered stem number))
+abbrev pub RecordsForGood : {D : Type 0} (m : FolderModel D) (day stem text : List ℕ) (old new : D) → Type 0
+RecordsForGood m day stem text old new = (number : ℕ) × Adds m day (numbered stem number) text old new × Only (Some text) (m.leaves new (numbered stem number))
+
+-- a copy with these bytes is in the folder of this day
+abbrev pub HasCopy : {D : Type 0} (m : FolderModel D) (day text : List ℕ) (old : D) → Type 0
+HasCopy m day text old = (name : List ℕ) × (is_copy_name name ≡ true) × m.reads old (name_in_day day name) (Some text)
 
 -- nothing was touched but a draft
 abbrev pub AddsNothing : {D : Type 0} (m : FolderModel D) (old new : D) → Type 0
 AddsNothing m old new = (name : List ℕ) × ((other : List ℕ) → other ≢ draft_of name → Stays m old new other)
+
+-- nothing was touched
+abbrev pub LeavesAll : {D : Type 0} (m : FolderModel D) (old new : D) → Type 0
+LeavesAll m old new = (other : List ℕ) → Stays m old new other

@@ -76,3 +76,11 @@ pub(crate) fn draft_of<A: Allocator + Copy>(alloc: A, name: &str) -> Result<Stri
 {
     format!(in alloc; "{name}.new")
 }
+
+/// The name without the folder that it begins with, if it begins with one.
+pub(crate) fn file_name(path: &str) -> &str {
+    match path.split_once('/') {
+        Some((_, name)) => name,
+        None => path,
+    }
+}

@@ -3,15 +3,16 @@
 ghost use Rattle.std.specs.Prelude.{◌≡◌, ◌≤◌, false, None, Some, IfOk, OnErr, IsSome, option_map, string_bytes};
 ghost use Rattle.byte_output.specs.Failures.{Rises};
 
+use crate::file_match::FileMatch;
 use crate::folder_path::FolderPath;
 use crate::history_room::HistoryRoom;
 use crate::host_file::HostFile;
 use crate::known_file::Place;
 use archive_history::HistoryFolder;
-use folders::{CallFault, Folder, RenameFault};
+use folders::{CallFault, Contents, Folder, RenameFault};
 use std::alloc::Allocator;
 use std::fs::{File, Metadata, OpenOptions, TryLockError};
-use std::io::{ErrorKind, Read};
+use std::io::{ErrorKind, Read, Write};
 use std::path::Path;
 use std::rt::Files;
 use std::time::Clock;
@@ -316,6 +317,33 @@ impl<R: Files<File = File> + Clock + AllocGlobal + Copy> HostFolder<R> {
         Ok(OpenDay { name, folder })
     }
 
+    // Whether the file under a name has this text.
+    fn matches<C: Contents>(&mut self, name: &str, text: &C) -> io::Result<bool>
+        ensures faults { self.new.faults ≡ self.old.faults }
+    {
+        let path = self.path.of(name)?;
+        if regular(&self.rt, path)?.is_none() {
+            return Ok(false);
+        }
+        let mut matching = FileMatch::new(fs::open(&self.rt, path)?);
+        // It takes no byte that differs, and none that cannot be read.
+        if text.write_to(&mut matching).is_err() {
+            return Ok(false);
+        }
+        matching.is_at_end()
+    }
+
+    // `write_short` without counting faults.
+    fn write_file(&mut self, name: &str, text: &str) -> io::Result<()>
+        ensures faults { self.new.faults ≡ self.old.faults }
+    {
+        self.remove_file(name)?;
+        let mut options = OpenOptions::new();
+        options.write(true).create_new(true);
+        let mut file = options.open(&self.rt, self.path.of(name)?)?;
+        file.write_all(text.as_bytes())
+    }
+
     // `read` without counting faults.
     fn read_file<A: Allocator>(&mut self, alloc: A, name: &str) -> io::Result<Option<Vec<u8, A>>>
         ensures faults { self.new.faults ≡ self.old.faults }
@@ -415,5 +443,17 @@ impl<R: Files<File = File> + Clock + AllocGlobal + Copy> HistoryFolder for HostF
                 Err(fault_of(&cause))
             }
         }
+    }
+
+    fn has_text<C: Contents>(&mut self, name: &str, text: &C) -> bool {
+        match self.matches(name, text) {
+            Ok(is_same) => is_same,
+            Err(_) => false,
+        }
+    }
+
+    fn write_short(&mut self, name: &str, text: &str) -> Result<(), CallFault> {
+        let result = self.write_file(name, text);
+        self.counted(result)
     }
 }

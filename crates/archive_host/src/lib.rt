@@ -9,6 +9,7 @@
 #![tactic(auto)]
 
 mod dir_keeper;
+mod file_match;
 mod folder_path;
 mod history_room;
 mod host_file;

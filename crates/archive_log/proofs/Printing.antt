@@ -198,6 +198,7 @@ event_plain (event.GetFinished peer rules bytes millis) =
     (peer_key peer, (rules_key rules, (number_key (codes "bytes") refl bytes, (number_key (codes "millis") refl millis, tt))))
 event_plain (event.KeepFailed rules bytes why) =
     (rules_key rules, (number_key (codes "bytes") refl bytes, ((word (codes "why") refl, shown_plain why.now), tt)))
+event_plain (event.AlreadyRecorded peer) = (peer_key peer, tt)
 event_plain (event.NotRecorded peer why cause) = (peer_key peer, ((word (codes "why") refl, lost_plain why (option_map (λ c. c.now) cause)), tt))
 event_plain (event.Stopped taken served) = (number_key (codes "taken") refl taken, (number_key (codes "served") refl served, tt))
 
@@ -220,6 +221,7 @@ message_plain (event.PutFailed peer block why) = word (codes "put failed") refl
 message_plain (event.GetFailed peer rules block why) = word (codes "get failed") refl
 message_plain (event.GetFinished peer rules bytes millis) = word (codes "get finished") refl
 message_plain (event.KeepFailed rules bytes why) = word (codes "keep failed") refl
+message_plain (event.AlreadyRecorded peer) = word (codes "already recorded") refl
 message_plain (event.NotRecorded peer why cause) = word (codes "not recorded") refl
 message_plain (event.Stopped taken served) = word (codes "stopped") refl
 

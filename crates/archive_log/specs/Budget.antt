@@ -48,6 +48,7 @@ is_bounded (event.PutFailed peer block why) = false
 is_bounded (event.GetFailed peer rules block why) = false
 is_bounded (event.GetFinished peer rules bytes millis) = false
 is_bounded (event.KeepFailed rules bytes why) = false
+is_bounded (event.AlreadyRecorded peer) = false
 is_bounded (event.NotRecorded peer why cause) = false
 is_bounded (event.Stopped taken served) = false
 

@@ -10,6 +10,8 @@ use Rattle.archive_table.specs.declared.step_event.StepEvent.{StepEvent}
 use Rattle.archive_table.specs.declared.step_event.StepEvent.TheVariants as did
 use Rattle.archive_table.specs.Table.{Taken}
 use Rattle.archive_table.specs.Events.{Reported}
+use Rattle.archive_history.specs.declared.record_outcome.RecordOutcome.{RecordOutcome}
+use Rattle.archive_history.specs.declared.record_outcome.RecordOutcome.TheVariants as outcome
 use Rattle.archive_log.specs.declared.log_event.LogEvent.{LogEvent}
 use Rattle.archive_log.specs.declared.log_event.LogEvent.TheVariants as event
 use Rattle.archive_log.specs.declared.logged_transfer.TransferKind.{TransferKind}
@@ -36,6 +38,12 @@ failed_by (Get rules) block why t = event.GetFailed t.peer rules block why
 
 abbrev pub failed_event : (block : ℕ) → FailureCause → LoggedTransfer → LogEvent
 failed_event block why t = failed_by t.kind block why t
+
+-- what is said of a file that was to be added to the history
+abbrev pub recorded_event : Option RecordOutcome → (peer : Endpoint) → Option LogEvent
+recorded_event None peer = None
+recorded_event (Some outcome.Added) peer = None
+recorded_event (Some outcome.Known) peer = Some (event.AlreadyRecorded peer)
 
 -- ---- the transfers
 

@@ -72,6 +72,7 @@ message_of (event.PutFailed peer block why) = codes "put failed"
 message_of (event.GetFailed peer rules block why) = codes "get failed"
 message_of (event.GetFinished peer rules bytes millis) = codes "get finished"
 message_of (event.KeepFailed rules bytes why) = codes "keep failed"
+message_of (event.AlreadyRecorded peer) = codes "already recorded"
 message_of (event.NotRecorded peer why cause) = codes "not recorded"
 message_of (event.Stopped taken served) = codes "stopped"
 
@@ -94,6 +95,7 @@ level_of (event.PutFailed peer block why) = failed_level why
 level_of (event.GetFailed peer rules block why) = level.Warn
 level_of (event.GetFinished peer rules bytes millis) = level.Info
 level_of (event.KeepFailed rules bytes why) = level.Error
+level_of (event.AlreadyRecorded peer) = level.Info
 level_of (event.NotRecorded peer why cause) = level.Error
 level_of (event.Stopped taken served) = level.Info
 
@@ -119,6 +121,7 @@ pairs_of (event.GetFinished peer rules bytes millis) =
     (codes "peer", peer_text peer) ∷ (codes "ruleset", ruleset_name rules) ∷ (codes "bytes", decimal bytes) ∷ (codes "millis", decimal millis) ∷ []
 pairs_of (event.KeepFailed rules bytes why) =
     (codes "ruleset", ruleset_name rules) ∷ (codes "bytes", decimal bytes) ∷ (codes "why", shown why.now) ∷ []
+pairs_of (event.AlreadyRecorded peer) = (codes "peer", peer_text peer) ∷ []
 pairs_of (event.NotRecorded peer why cause) =
     (codes "peer", peer_text peer) ∷ (codes "why", lost_text why (option_map (λ c. c.now) cause)) ∷ []
 pairs_of (event.Stopped taken served) = (codes "taken", decimal taken) ∷ (codes "served", decimal served) ∷ []

@@ -9,8 +9,9 @@ use Rattle.archive_table.specs.declared.step_event.StepEvent.TheVariants as did
 use Rattle.archive_table.specs.Table.{Taken}
 use Rattle.archive_table.specs.Events.{Reported}
 use Rattle.folders.specs.Folder.{FolderModel}
-use Rattle.archive_history.specs.History.{AddsNothing, Records, stem_text}
-use Rattle.archive_history.specs.Times.{ShowsMoment}
+use Rattle.archive_history.specs.History.{AddsNothing, HasCopy, LeavesAll, Records, stem_text}
+use Rattle.archive_history.specs.Kept.{without_pads}
+use Rattle.archive_history.specs.Times.{ShowsMoment, day_of}
 use Rattle.archive_log.specs.declared.logged_transfer.LoggedTransfer.{LoggedTransfer}
 use Rattle.archive_log.specs.declared.line_budget.LineBudget.{LineBudget}
 use Rattle.archive_log.specs.declared.log_event.LogEvent.{LogEvent}
@@ -41,13 +42,13 @@ pub record FollowsEvent {H : Type 0} (e : LogEvent) (old new : Logged H) : Type 
 
 -- ---- the history
 
--- a file that was taken was added, under a name of some moment, its peer and the ruleset that its fifth byte says
+-- a file that was taken was added without its pads, under a name of some moment, its peer and the ruleset that its fifth byte says
 pub record RecordsTaken {H : Type 0} (m : FolderModel H) (t : Taken) (old new : H) : Type 0 where
   pub time : List ℕ
   pub moment : ShowsMoment time
   pub rules : Ruleset
   pub rules_is : ruleset_in t.file ≡ Some rules
-  pub records : Records m (stem_text time t.peer rules) t.file old new
+  pub records : Records m (day_of time) (stem_text time t.peer rules) (without_pads t.file) old new
 
 -- a history after a file was to be added
 pub record Recorded {H : Type 0} (m : FolderModel H) (t : Taken) (old new : Option H) : Type 0 where
@@ -57,7 +58,16 @@ pub record Recorded {H : Type 0} (m : FolderModel H) (t : Taken) (old new : Opti
   pub is : new ≡ Some after
   pub adds : AddsNothing m before after ⊎ RecordsTaken m t before after
 
--- No file of the history is changed or removed, but for drafts: at most the file that was taken is added, and only if it is
+-- the bytes of a file, without pads, were there from the day of this moment, and nothing was touched
+pub record IsKnown {H : Type 0} (m : FolderModel H) (time : List ℕ) (t : Taken) (old new : Option H) : Type 0 where
+  pub before : H
+  pub was : old ≡ Some before
+  pub copy : HasCopy m (day_of time) (without_pads t.file) before
+  pub after : H
+  pub is : new ≡ Some after
+  pub same : LeavesAll m before after
+
+-- No file of the history is changed or removed, but for drafts and markers: at most the file that was taken is added, and only if it is
 -- readable, whether or not it improved a collection.
 pub record KeepsFile {H : Type 0} (m : FolderModel H) (t : Taken) (merged : Merged) (old new : Option H) : Type 0 where
   pub adds : (new ≡ old) ⊎ Recorded m t old new

@@ -68,6 +68,10 @@ pub enum LogEvent<'a> {
         bytes: u64,
         why: &'a str,
     },
+    /// The bytes of a file that was taken are in the history from that day: no second copy was added.
+    AlreadyRecorded {
+        peer: Endpoint,
+    },
     /// A file that was taken is not in the history; `cause` is in the words of the system, if a call of it failed.
     NotRecorded {
         peer: Endpoint,
@@ -96,6 +100,7 @@ impl LogEvent<'_> {
             LogEvent::GetFailed { .. } => "get failed",
             LogEvent::GetFinished { .. } => "get finished",
             LogEvent::KeepFailed { .. } => "keep failed",
+            LogEvent::AlreadyRecorded { .. } => "already recorded",
             LogEvent::NotRecorded { .. } => "not recorded",
             LogEvent::Stopped { .. } => "stopped",
         }
@@ -127,6 +132,7 @@ impl LogEvent<'_> {
             LogEvent::PutFailed { why, .. } => failed_level(*why),
             LogEvent::LeftOut { .. } => Level::Warn,
             LogEvent::KeepFailed { .. } => Level::Error,
+            LogEvent::AlreadyRecorded { .. } => Level::Info,
             LogEvent::NotRecorded { .. } => Level::Error,
         }
     }

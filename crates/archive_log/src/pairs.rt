@@ -271,6 +271,7 @@ impl Source for LogEvent<'_> {
                 bytes,
                 why,
             } => visit_keep_failed(visitor, *ruleset, *bytes, *why),
+            LogEvent::AlreadyRecorded { peer } => visit_peer(visitor, *peer),
             LogEvent::NotRecorded { peer, why, cause } => visit_not_recorded(
                 visitor, *peer, *why, *cause,
             ),

@@ -1,18 +1,18 @@
 //! The observer that writes the log and the history.
 
-ghost use Rattle.std.specs.Prelude.{◌≡◌, [], length, true, option_copied, if◌then◌else◌};
+ghost use Rattle.std.specs.Prelude.{◌≡◌, [], length, true, Some, Ok, option_copied, if◌then◌else◌};
 ghost use Rattle.tws_file.specs.declared.«ruleset».Ruleset.TheVariants.{Lynx, Ms};
 ghost use Rattle.archive_history.specs.Times.{ShowsMoment};
 ghost use Rattle.archive_table.specs.Table.{map_of};
-ghost use Rattle.archive_log.specs.Events.{served_after, taken_after};
-ghost use Rattle.archive_log.specs.ServerLog.{FollowsEvent, FollowsStep, KeepsFile, KeepsTaken};
+ghost use Rattle.archive_log.specs.Events.{recorded_event, served_after, taken_after};
+ghost use Rattle.archive_log.specs.ServerLog.{FollowsEvent, FollowsStep, IsKnown, KeepsFile, KeepsTaken};
 ghost use Rattle.archive_log.specs.Budget.{after_event, after_events, after_line, is_bounded, new_budget, settled};
 
 use crate::line_budget::LineBudget;
 use crate::log_event::LogEvent;
 use crate::log_line::LogLine;
 use crate::logged_transfers::LoggedTransfers;
-use archive_history::{HistoryFault, HistoryFolder, Stamp, record as record_in};
+use archive_history::{HistoryFault, HistoryFolder, RecordOutcome, Stamp, record as record_in};
 use archive_server::{DropCause, ServerObserver};
 use archive_table::{Merged, Observer, Step, StepEvent, Table, Taken};
 use arrayvec::ArrayString;
@@ -192,14 +192,22 @@ impl<C: Clock, L: Log, H: HistoryFolder, A: Allocator + Copy> ServerLog<C, L, H,
         }
     }
 
-    // Puts a file that was taken into the history, or reports why it is not there.
+    // Reports that the same bytes were in the history, if they were.
+    fn report_known(&self, time: &Stamp, peer: Endpoint, outcome: Option<RecordOutcome>) {
+        if let Some(event) = recorded_event(outcome, peer) {
+            self.report(time, event);
+        }
+    }
+
+    // Puts a file that was taken into the history, and reports if it was there, or why it is not.
     fn record<T: Allocator>(&mut self, time: &Stamp, taken: &Taken<T>, merged: Merged)
         requires { ShowsMoment time.now }
         ensures same { self.new ≡ record self.old { history = self.new.history } }
         ensures history { H.has_model ≡ true → H.undoes_renames ≡ true → KeepsFile H.model taken.now merged self.old.history self.new.history }
     {
-        if let Err(why) = add_to_history(self.alloc, &mut self.history, time, taken, merged) {
-            self.report_lost(time, taken.peer, why);
+        match add_to_history(self.alloc, &mut self.history, time, taken, merged) {
+            Ok(outcome) => self.report_known(time, taken.peer, outcome),
+            Err(why) => self.report_lost(time, taken.peer, why),
         }
     }
 
@@ -250,28 +258,44 @@ fn started_event<'a, T: Allocator + Copy>(
     }
 }
 
-// Puts a file that was taken into the history, if there is one and the file is readable. Whether it improved a collection
-// does not matter: what it was worse than may be bogus.
+// Puts a file that was taken into the history, if there is one and the file is readable; `None` if not. Whether it improved a
+// collection does not matter: what it was worse than may be bogus.
 fn add_to_history<H: HistoryFolder, A: Allocator + Copy, T: Allocator>(
     alloc: A,
     history: &mut Option<H>,
     time: &Stamp,
     taken: &Taken<T>,
     merged: Merged,
-) -> Result<(), HistoryFault>
+) -> Result<Option<RecordOutcome>, HistoryFault>
     requires { ShowsMoment time.now }
-    ensures { H.has_model ≡ true → H.undoes_renames ≡ true → KeepsFile H.model taken.now merged history.old history.new }
+    ensures history { H.has_model ≡ true → H.undoes_renames ≡ true → KeepsFile H.model taken.now merged history.old history.new }
+    // That it is known is said only of bytes that are there from that day.
+    ensures known { H.has_model ≡ true → result ≡ Ok (Some RecordOutcome.Known) → IsKnown H.model time.now taken.now history.old history.new }
 {
     if merged.fault.is_some() {
-        return Ok(());
+        return Ok(None);
     }
     let Some(history) = history else {
-        return Ok(());
+        return Ok(None);
     };
     let Some(ruleset) = taken.ruleset() else {
-        return Ok(());
+        return Ok(None);
     };
-    record_in(alloc, history, time, taken.peer, ruleset, &taken.file)
+    match record_in(alloc, history, time, taken.peer, ruleset, &taken.file) {
+        Ok(outcome) => Ok(Some(outcome)),
+        Err(why) => Err(why),
+    }
+}
+
+// The event that a file was in the history already, if it was.
+fn recorded_event(outcome: Option<RecordOutcome>, peer: Endpoint) -> Option<LogEvent<'static>>
+    ensures { result ≡ recorded_event outcome peer }
+{
+    match outcome {
+        None => None,
+        Some(RecordOutcome::Added) => None,
+        Some(RecordOutcome::Known) => Some(LogEvent::AlreadyRecorded { peer }),
+    }
 }
 
 /// A step is reported if it is an event, and the file that it took goes into the history if it is readable.

@@ -8,7 +8,7 @@ use archive_history::HistoryFolder;
 use archive_keepers::NoKeeper;
 use archive_log::ServerLog;
 use archive_table::Table;
-use folders::{CallFault, Folder, MemoryFolder, RenameFault};
+use folders::{CallFault, Contents, Folder, MemoryFolder, RenameFault};
 use log::Log;
 use log::sink::{Discard, Memory};
 use std::alloc::{Allocator, Global};
@@ -24,9 +24,17 @@ const SECOND: &str = "2026-11-27/20261127T091500.123Z-0.0.0.2-5000-lynx-1.tws";
 
 const THIRD: &str = "2026-11-27/20261127T091500.123Z-0.0.0.2-5000-lynx-2.tws";
 
-const FOURTH: &str = "2026-11-27/20261127T091500.123Z-0.0.0.2-5000-lynx-3.tws";
+// Named by `sha256sum` of the solution.
+const MARKER: &str = "2026-11-27/.3c169ddd4c88b594dfc4a18353157224d5aeefa1ccc2322747735bd9ca3e1463";
 
 const DRAFT: &str = "2026-11-27/20261127T091500.123Z-0.0.0.2-5000-lynx.tws.new";
+
+// What it has: the copy's name.
+const MARKED: &[u8] = b"20261127T091500.123Z-0.0.0.2-5000-lynx-1.tws";
+
+// The solution between two pads.
+const DATA_PADDED: &[u8; 40] =
+    b"\0\x03\0\x01\x35\x33\x9B\x99\x01\0\0\0\0\0\0\0\x10\0\0\0\x01\0BDHP\0\0\0\0\0\0\x64\0\0\0\0\0\0\0";
 
 // Lets a new server without a keeper make these steps, and logs them.
 fn serve<C: Clock, L: Log, H: HistoryFolder>(
@@ -58,22 +66,22 @@ fn is_file(history: &MemoryFolder, name: &str, wanted: &[u8]) -> bool {
     }
 }
 
-// Whether a history has these three files, and nothing else.
-fn has_three(history: &Option<MemoryFolder>, files: [&[u8]; 3]) -> bool {
+// Whether a history has these two files, a marker of the second, and nothing else.
+fn has_two(history: &Option<MemoryFolder>, files: [&[u8]; 2]) -> bool {
     match history {
         Some(history) => {
             is_file(history, FIRST, files[0])
                 && is_file(history, SECOND, files[1])
-                && is_file(history, THIRD, files[2])
-                && history.file(FOURTH).is_none()
+                && is_file(history, MARKER, MARKED)
+                && history.file(THIRD).is_none()
                 && history.file(DRAFT).is_none()
         }
         None => false,
     }
 }
 
-// After four puts, of a solution, of two that are slower and improve nothing, and of bytes that are no file, there are three
-// files.
+// After four puts, of a solution, of one that is slower and improves nothing, of bytes that are no file, and of the slower one
+// again, there are two files.
 #[test]
 fn what_was_taken_and_is_readable(rt: HostRuntime) -> Result<(), Fail> {
     let inputs = [
@@ -87,7 +95,19 @@ fn what_was_taken_and_is_readable(rt: HostRuntime) -> Result<(), Fail> {
         Input::Recv(4003, 0, DATA_HUNDRED),
     ];
     let history = history_of(rt.alloc(), &inputs)?;
-    assert!(rt; has_three(&history, [NINETY, HUNDRED, HUNDRED]));
+    assert!(rt; has_two(&history, [NINETY, HUNDRED]));
+    Ok(())
+}
+
+// Of a file with pads the rest is there.
+#[test]
+fn without_pads(rt: HostRuntime) -> Result<(), Fail> {
+    let inputs = [Input::Ask(4000, 0, WRQ), Input::Recv(4000, 0, DATA_PADDED)];
+    let is_kept = match history_of(rt.alloc(), &inputs)? {
+        Some(history) => is_file(&history, FIRST, HUNDRED),
+        None => false,
+    };
+    assert!(rt; is_kept);
     Ok(())
 }
 
@@ -141,6 +161,7 @@ fn each_call_fails(rt: HostRuntime) -> Result<(), Fail> {
     let rows = [
         "[ERROR tws] not recorded time=2026-11-27T09:15:00.123Z peer=0.0.0.2:5000 why=no folder for the day",
         "[ERROR tws] not recorded time=2026-11-27T09:15:00.123Z peer=0.0.0.2:5000 why=not looked up",
+        "[ERROR tws] not recorded time=2026-11-27T09:15:00.123Z peer=0.0.0.2:5000 why=not looked up",
         "[ERROR tws] not recorded time=2026-11-27T09:15:00.123Z peer=0.0.0.2:5000 why=not created",
         "[ERROR tws] not recorded time=2026-11-27T09:15:00.123Z peer=0.0.0.2:5000 why=not created",
         "[ERROR tws] not recorded time=2026-11-27T09:15:00.123Z peer=0.0.0.2:5000 why=not synced",
@@ -150,7 +171,49 @@ fn each_call_fails(rt: HostRuntime) -> Result<(), Fail> {
     ];
     for (left, wanted) in rows.iter().enumerate() {
         let found = recorded_until(rt.alloc(), left as u64, *wanted)?;
-        assert_eq!(rt; found, (true, left >= 6));
+        assert_eq!(rt; found, (true, left >= 7));
+    }
+    Ok(())
+}
+
+// A server takes the solution, a file of its history gets another text, and a server takes the solution again: whether there
+// are two copies, and whether the log's last line says that one was there.
+fn taken_again(alloc: Global, name: &str, text: &str) -> Result<(bool, bool), Fail> {
+    let wanted = "[INFO  tws] already recorded time=2026-11-27T09:15:00.123Z peer=0.0.0.2:5000";
+    let (_, history) = recorded(alloc, MemoryFolder::new(alloc), "")?;
+    let Some(mut history) = history else {
+        return Err(Fail::from("no history"));
+    };
+    let _ = history.write_short(name, text);
+    let (is_last, history) = recorded(alloc, history, wanted)?;
+    let are_two = match history {
+        Some(history) => history.file(SECOND).is_some(),
+        None => false,
+    };
+    Ok((are_two, is_last))
+}
+
+// The same bytes are there once, unless the marker or the copy has changed.
+#[test]
+fn a_marker_leads_to_the_copy(rt: HostRuntime) -> Result<(), Fail> {
+    let rows = [
+        (DRAFT, "", (false, true)),
+        (
+            MARKER,
+            "20261127T091500.123Z-0.0.0.2-5000-lynx.tws",
+            (false, true),
+        ),
+        (MARKER, "", (true, false)),
+        (
+            MARKER,
+            "20261127T091500.123Z-0.0.0.2-5000-lynx-9.tws",
+            (true, false),
+        ),
+        (FIRST, "another text", (true, false)),
+    ];
+    for (name, text, wanted) in rows {
+        let found = taken_again(rt.alloc(), name, text)?;
+        assert_eq!(rt; found, wanted);
     }
     Ok(())
 }
@@ -239,6 +302,14 @@ impl HistoryFolder for FullHistory {
 
     fn open_day(&mut self, day: &str) -> Result<(), CallFault> {
         self.is_open = day == "2026-11-27";
+        Ok(())
+    }
+
+    fn has_text<C: Contents>(&mut self, _name: &str, _text: &C) -> bool {
+        false
+    }
+
+    fn write_short(&mut self, _name: &str, _text: &str) -> Result<(), CallFault> {
         Ok(())
     }
 }

@@ -1,6 +1,6 @@
 //! A caller of `archive_history`.
 
-use archive_history::{HistoryFault, HistoryFolder, Stamp, record};
+use archive_history::{HistoryFault, HistoryFolder, RecordOutcome, Stamp, record};
 use std::alloc::Global;
 use tftp_ends::Received;
 use tftp_packet::Endpoint;
@@ -14,6 +14,6 @@ pub fn add<F: HistoryFolder>(
     peer: Endpoint,
     ruleset: Ruleset,
     file: &Received,
-) -> Result<(), HistoryFault> {
+) -> Result<RecordOutcome, HistoryFault> {
     record(alloc, folder, time, peer, ruleset, file)
 }
