@@ -137,6 +137,7 @@ pub(crate) fn visit_transfer<A: Allocator + Copy, W: Wire, K: Keeper, O: Observe
             let step = table.on_datagram(keeper, port, from, &buffer[..count]);
             let visit = end_step(wire, port, to_peer, &step);
             observer.on_step(port, Some(from), &step, table);
+            drop(step);
             visit
         }
         Ok(None) => Visit::QUIET,
@@ -157,6 +158,7 @@ pub(crate) fn time_out<A: Allocator + Copy, W: Wire, O: Observer>(
     let step = table.on_timeout(port);
     let visit = end_step(wire, port, true, &step);
     observer.on_step(port, None, &step, table);
+    drop(step);
     visit.change
 }
 
@@ -304,6 +306,7 @@ fn answer_request<A: Allocator + Copy, W: Wire, O: Observer>(
             let step = table.on_request(spare, from, bytes);
             let visit = end_request(wire, spare, &step);
             observe_request(table, observer, spare, from, &step);
+            drop(step);
             visit
         }
         Ok(_) => Visit::LOST,

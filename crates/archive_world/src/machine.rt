@@ -337,17 +337,30 @@ impl<A: Allocator + Copy> Machine<A> {
     pub(crate) fn outcome(self) -> Result<Outcome<A>, AllocError>
         ensures { IfOk result (λ o. o ≡ outcome_of self) }
     {
-        let lynx = text_of(self.alloc, self.table.collection(Ruleset::Lynx))?;
-        let ms = text_of(self.alloc, self.table.collection(Ruleset::Ms))?;
+        let (lynx, ms) = match self.texts() {
+            Ok(texts) => texts,
+            Err(fault) => {
+                drop(self);
+                return Err(fault);
+            }
+        };
         let Machine {
             net,
+            table,
+            clients,
+            begun,
             taken,
             recovered,
             sent,
             got,
             opened,
+            strays,
             ..
         } = self;
+        drop(table);
+        drop(clients);
+        drop(begun);
+        drop(strays);
         Ok(Outcome {
             taken,
             recovered,
@@ -358,6 +371,16 @@ impl<A: Allocator + Copy> Machine<A> {
             ms,
             datagrams: net,
         })
+    }
+
+    // The texts of the server's Lynx and MS collections.
+    fn texts(&self) -> Result<(Bytes<A>, Bytes<A>), AllocError>
+        ensures lynx { IfOk result (λ texts. texts.0 ≡ collection_text self.now.server.maps.lynx) }
+        ensures ms { IfOk result (λ texts. texts.1 ≡ collection_text self.now.server.maps.ms) }
+    {
+        let lynx = text_of(self.alloc, self.table.collection(Ruleset::Lynx))?;
+        let ms = text_of(self.alloc, self.table.collection(Ruleset::Ms))?;
+        Ok((lynx, ms))
     }
 
     // Records the transfer that was opened at this port for a request, if one was.

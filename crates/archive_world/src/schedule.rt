@@ -66,7 +66,10 @@ fn run<K: Keeper, A: Allocator + Copy>(
 {
     match happen_all(&mut machine, keeper, events) {
         Ok(()) => {}
-        Err(fault) => return Err(fault),
+        Err(fault) => {
+            drop(machine);
+            return Err(fault);
+        }
     }
     match machine.outcome() {
         Ok(outcome) => Ok(outcome),

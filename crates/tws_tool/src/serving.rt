@@ -194,13 +194,22 @@ impl<'a, P: Files<File = File> + Net + Clock + RandomSource + Eprint + AllocGlob
     {
         let mut wire = match self.listen() {
             Ok(wire) => wire,
-            Err(cause) => return no_port(self.arguments.port, &cause, errors),
+            Err(cause) => {
+                drop(server);
+                drop(keeper);
+                drop(observer);
+                return no_port(self.arguments.port, &cause, errors);
+            }
         };
         if self.arguments.turns < TURNS {
-            return self.serve_over(&mut wire, server, keeper, observer, out, errors);
+            let status = self.serve_over(&mut wire, server, keeper, observer, out, errors);
+            drop(wire);
+            return status;
         }
         let mut wire = self.policed(wire);
-        self.serve_over(&mut wire, server, keeper, observer, out, errors)
+        let status = self.serve_over(&mut wire, server, keeper, observer, out, errors);
+        drop(wire);
+        status
     }
 
     // The room of the history that was asked for, if one was.
@@ -229,6 +238,8 @@ impl<'a, P: Files<File = File> + Net + Clock + RandomSource + Eprint + AllocGlob
     {
         let arguments = self.arguments;
         let Ok(room) = self.room() else {
+            drop(server);
+            drop(keeper);
             return report(ToolFault::Memory, &[], errors);
         };
         let log = console(self.rt, arguments.log);
@@ -243,7 +254,11 @@ impl<'a, P: Files<File = File> + Net + Clock + RandomSource + Eprint + AllocGlob
                 let observer = ServerLog::new(self.alloc, self.rt, log, history);
                 self.serve_observed(server, keeper, observer, out, errors)
             }
-            None => FAILED,
+            None => {
+                drop(server);
+                drop(keeper);
+                FAILED
+            }
         }
     }
 
@@ -269,7 +284,11 @@ impl<'a, P: Files<File = File> + Net + Clock + RandomSource + Eprint + AllocGlob
     {
         match Server::load(self.alloc, self.arguments.port, &mut keeper) {
             Ok(server) => self.serve_kept(server, keeper, out, errors),
-            Err(_) => report_unloaded(self.alloc, &mut keeper, name, errors),
+            Err(_) => {
+                let status = report_unloaded(self.alloc, &mut keeper, name, errors);
+                drop(keeper);
+                status
+            }
         }
     }
 

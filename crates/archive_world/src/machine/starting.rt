@@ -54,11 +54,18 @@ impl<A: Allocator + Copy> Machine<A> {
         let mut machine = Machine::new(alloc);
         match machine.restart(&mut texts) {
             Ok(()) => {}
-            Err(fault) => return Err(fault),
+            Err(fault) => {
+                drop(texts);
+                drop(machine);
+                return Err(fault);
+            }
         }
         match machine.give(texts) {
             Ok(()) => Ok(machine),
-            Err(_) => Err(LoadFault::Memory),
+            Err(_) => {
+                drop(machine);
+                Err(LoadFault::Memory)
+            }
         }
     }
 }
