@@ -4,3 +4,4 @@ pub mod Faults
 pub mod Help
 pub mod Inputs
 pub mod Reading
+pub mod Saying

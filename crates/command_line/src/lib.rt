@@ -4,7 +4,8 @@
 //!
 //! Read `specs/Arguments.antt` first: it says what was given for an argument. `specs/CommandLine.antt` says what the
 //! arguments of a program ask for, `specs/Faults.antt` has the exit statuses, `specs/Inputs.antt` what is known of an
-//! input, `specs/Reading.antt` what reading one did, and `specs/Help.antt` what a run did that was asked for no job.
+//! input, `specs/Reading.antt` what reading one did, `specs/Saying.antt` what a command says, and `specs/Help.antt` what a run did that
+//! was asked for no job.
 #![tactic(auto)]
 
 mod arguments;
@@ -16,6 +17,7 @@ mod laws;
 mod limits;
 mod program;
 mod reporting;
+mod saying;
 mod source;
 mod status;
 mod streams;
@@ -34,6 +36,7 @@ pub use laws::limit_values;
 pub use limits::{INPUT_PIECE, INPUT_READS};
 pub use program::{add_command, found_in, new_program, unknown_command};
 pub use reporting::{finish, report, report_arguments, report_cause, report_file};
+pub use saying::say;
 pub use source::Source;
 pub use status::{DONE, FAILED, NOT_TRANSFERRED, UNREADABLE, USAGE};
 pub use streams::report_streams;

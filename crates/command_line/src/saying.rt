@@ -1,10 +1,10 @@
 //! What a command says on standard error of what it did.
 
 ghost use Rattle.std.specs.Prelude.{◌≡◌, OnOk, IfErr, string_bytes};
-ghost use Rattle.show_commands.specs.Saying.{Says};
+ghost use Rattle.command_line.specs.Saying.{Says};
 
+use crate::tool_fault::ToolFault;
 use byte_output::put;
-use command_line::ToolFault;
 use std::io::Write;
 
 /// Writes what a command says of what it did; if that is empty, the writer is left alone.
