@@ -8,6 +8,7 @@ pub mod Lines
 pub mod Ports
 pub mod Put
 pub mod Reached
+pub mod Reports
 pub mod PutBetter
 pub mod PutFiles
 pub mod PutRan

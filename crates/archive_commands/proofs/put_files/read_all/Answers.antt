@@ -8,7 +8,7 @@ returns-in-Err-push-clause-unread g c =
     let at = c.loop-source in
     fails_at bytes_of c.args.sources.now at.source-index c.source-item.result (map (λ (text : Vec ℕ Global). text.items) at.texts.items) (g.R.Read.remaining c.args.input.now) (g.R.Read.remaining at.input)
     (g.R.Read.remaining c.read_one.new.input) c.report_file_fault.result c.loop-source-test.true c.source-item.is at.invariant.read
-    (read_lost bytes_of c.source-item.result c.in-Ok.text.items _ _ c.report_file_fault.result c.report_file_fault.ensures c.in-Ok.ensures.read)
+    (read_lost bytes_of c.source-item.result c.in-Ok.text.items _ _ c.report_file_fault.result c.report_file_fault.ensures.status c.in-Ok.ensures.read)
 
 pub returns-in-Err-clause-unread : goal.returns-in-Err-clause-unread
 returns-in-Err-clause-unread g c =
