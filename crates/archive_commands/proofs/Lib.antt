@@ -8,5 +8,6 @@ pub mod Ranges
 pub mod Said
 mod Sending
 pub mod Statuses
+pub mod Stoppers
 pub mod Syncs
 pub mod Taking

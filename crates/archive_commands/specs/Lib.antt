@@ -12,7 +12,9 @@ pub mod Reports
 pub mod PutBetter
 pub mod PutFiles
 pub mod PutRan
+pub mod PutSaid
 pub mod Get
 pub mod Serve
+pub mod Stopping
 pub mod Syncing
 pub mod Sync
