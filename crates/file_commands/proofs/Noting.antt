@@ -5,7 +5,8 @@ use Rattle.std.proofs.lemmas.List.{length-map, length-take}
 use Rattle.tws_file.specs.declared.«ruleset».Ruleset.{Ruleset}
 use Rattle.tws_file.specs.Text.{File, IsText}
 use Rattle.command_line.specs.declared.source.Source.{Source}
-use Rattle.show_commands.specs.Saying.{Says, SaysOfFiles}
+use Rattle.command_line.specs.Saying.{Says}
+use Rattle.show_commands.specs.Saying.{SaysOfFiles}
 use Rattle.show_commands.specs.SeveralInputs.{AreFiles}
 use Rattle.show_commands.proofs.Collecting.{files_more}
 use Rattle.file_commands.specs.declared.notes.Notes.{Notes}

@@ -15,7 +15,7 @@ use Rattle.file_commands.specs.declared.compare.CompareArguments.{CompareArgumen
 use Rattle.command_line.specs.declared.tool_fault.ToolFault.{ToolFault}
 use Rattle.command_line.specs.declared.tool_fault.ToolFault.TheVariants.{Read, Write, Unreadable, Memory, Socket, Transfer}
 use Rattle.command_line.specs.Arguments.{HasFlag}
-use Rattle.show_commands.specs.Saying.{Says}
+use Rattle.command_line.specs.Saying.{Says}
 use Rattle.file_commands.specs.Notes.{sets_note}
 use Rattle.command_line.specs.Faults.{status_of}
 use Rattle.command_line.specs.Inputs.{IsUnreadable}

@@ -8,14 +8,14 @@ ghost use Rattle.clap.specs.declared.builder.command.Command.TheViews.{out-Comma
 ghost use Rattle.command_line.specs.Arguments.{Answers};
 ghost use Rattle.file_commands.specs.Compare.{AsksToCompare, CompareFails, CompareRan, CompareSaid, Compares, ComparesFiles, FilesFail, SaysOfTwo, better_rule, compare_app, compare_note, compare_status, compared_app, mine_rule, theirs_rule};
 ghost use Rattle.command_line.specs.Faults.{status_of};
-ghost use Rattle.show_commands.specs.Saying.{Says};
+ghost use Rattle.command_line.specs.Saying.{Says};
 ghost use Rattle.file_commands.specs.Notes.{IsSayFault};
 
 use crate::notes::sets_note;
 use byte_output::put;
 use clap::{Arg, ArgAction, ArgMatches, Command};
-use command_line::{DONE, ToolFault, USAGE, new_command, report, report_file, string_given};
-use show_commands::{output_argument, read_input, say};
+use command_line::{DONE, ToolFault, USAGE, new_command, report, report_file, say, string_given};
+use show_commands::{output_argument, read_input};
 use std::alloc::{AllocError, Global};
 use std::io::{Read, Write};
 use std::slice;
