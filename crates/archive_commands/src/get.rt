@@ -223,7 +223,7 @@ pub fn run<S: FileSystem + Resolver, N: TransferWire, W: Write, E: Write>(
     out: &mut W,
     errors: &mut E,
 ) -> u8
-    ensures ran { GetRan (record { bytes_of = S.bytes_of system.old; drafted_of = S.drafted_of system.old; host_of = S.host_of system.old }) arguments.now result (N.calls wire.old) (N.calls wire.new) (S.bytes_of system.new) (W.contents out.old) (W.contents out.new) }
+    ensures ran { GetRan (record { bytes_of = S.bytes_of system.old; drafted_of = S.drafted_of system.old; below_of = S.below_of system.old; host_of = S.host_of system.old }) arguments.now result (N.calls wire.old) (N.calls wire.new) (S.bytes_of system.new) (W.contents out.old) (W.contents out.new) }
     ensures unwritten { result ≢ 0 → result ≢ 2 → out.new ≡ out.old }
     ensures silent { result ≡ 0 → errors.new ≡ errors.old }
     ensures printed { result ≢ 0 → GetReports (string_bytes arguments.now.target.address) (string_bytes arguments.now.file) result (N.refusal_of wire.new) (N.reached_of wire.new) (E.contents errors.old) (E.contents errors.new) }

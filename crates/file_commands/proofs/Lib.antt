@@ -4,3 +4,4 @@ pub mod Comparing
 pub mod Removing
 pub mod Unsaid
 pub mod Noting
+pub mod Finding

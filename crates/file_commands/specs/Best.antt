@@ -1,5 +1,5 @@
 -- The command `best`, which writes the collection over all its inputs.
-use Rattle.std.specs.Prelude.{◌≡◌, ℕ, List, Option, codes, option_map, string_bytes}
+use Rattle.std.specs.Prelude.{◌≡◌, ◌⊎◌, ℕ, List, Option, codes, option_map, string_bytes}
 use Rattle.std.specs.List.{AllByRecursion}
 use Rattle.std.specs.Io.KnownBytes.{Appends}
 use Rattle.clap.specs.Words.{App, Row, Text, first_of, new_app, with_rule}
@@ -8,12 +8,14 @@ use Rattle.tws_file.specs.Text.{IsReadable}
 use Rattle.byte_output.specs.Output.{AppendsPrefix}
 use Rattle.tws_best.specs.Best.{Collected, IsCollectionOf, collection_text}
 use Rattle.command_line.specs.declared.tool_fault.ToolFault.{ToolFault}
+use Rattle.command_line.specs.declared.source.Source.{Source}
 use Rattle.command_line.specs.Inputs.{knowns_of}
 use Rattle.command_line.specs.Arguments.{HasRuleset, HasSources, RulesetNames, files_rule, ruleset_rule}
 use Rattle.show_commands.specs.Output.{output_rule}
 use Rattle.file_commands.specs.declared.best.BestArguments.{BestArguments}
 use Rattle.show_commands.specs.Saying.{SaysOfFiles}
 use Rattle.show_commands.specs.SeveralInputs.{AreReported, FilesFail, FilesRanFrom}
+use Rattle.file_commands.specs.BestFiles.{AreInputs}
 use Rattle.file_commands.specs.Notes.{files_note}
 
 abbrev pub best_name : Text
@@ -47,12 +49,28 @@ BestPrefix rules knowns old new = (c : Collected) × Collects rules knowns c × 
 abbrev pub BestFails : Ruleset → List (Option (List ℕ)) → (old new : Option (List ℕ)) → ToolFault → Type 0
 BestFails rules knowns old new = FilesFail (BestPrefix rules knowns old new) knowns old new
 
--- What it did, by the exit status, given what is known of the bytes of the file with each name, and what holds if
--- standard input was not read: what standard input had and has left, and the output before and after.
-abbrev pub BestRan : (bytes_of : List ℕ → Option (List ℕ)) → (Unread : Type 0) → BestArguments → (status : ℕ) → (given left old new : Option (List ℕ)) → Type 0
-BestRan bytes_of Unread arguments status given left old new = FilesRanFrom arguments.files.items bytes_of Unread (BestWrites arguments.ruleset) (BestPrefix arguments.ruleset) status given left old new
+-- it ran over the inputs for which its arguments stand
+pub record RanOverInputs (below_of : List ℕ → Option (Option (List (List ℕ)))) (bytes_of : List ℕ → Option (List ℕ)) (Unread : Type 0) (arguments : BestArguments) (status : ℕ) (given left old new : Option (List ℕ)) : Type 0 where
+  pub sources : List Source
+  pub count : ℕ
+  pub are : AreInputs below_of arguments.files.items sources count
+  pub ran : FilesRanFrom sources bytes_of Unread (BestWrites arguments.ruleset) (BestPrefix arguments.ruleset) status given left old new
 
--- What it said at status 0, given what is known of the bytes of the file with each name and of standard input, and what holds
--- if it said nothing: what standard error had before, and has.
-abbrev pub BestSaid : (bytes_of : List ℕ → Option (List ℕ)) → (given : Option (List ℕ)) → (Silent : Type 0) → BestArguments → (old new : Option (List ℕ)) → Type 0
-BestSaid bytes_of given Silent arguments old new = SaysOfFiles (files_note arguments.ruleset arguments.files.items) Silent (knowns_of bytes_of given arguments.files.items) old new
+-- a folder could not be listed, or memory was refused before anything was read
+pub record FindsNoInputs (Unread : Type 0) (status : ℕ) (old new : Option (List ℕ)) : Type 0 where
+  pub status_is : status ≡ 2
+  pub unread : Unread
+  pub unwritten : new ≡ old
+
+-- What it did, by the exit status, given what is known of the files below each folder, and of the bytes of the file with each
+-- name, and what holds if standard input was not read: what standard input had and has left, and the output before and after.
+abbrev pub BestRan : (below_of : List ℕ → Option (Option (List (List ℕ)))) → (bytes_of : List ℕ → Option (List ℕ)) → (Unread : Type 0) → BestArguments → (status : ℕ) → (given left old new : Option (List ℕ)) → Type 0
+BestRan below_of bytes_of Unread arguments status given left old new = RanOverInputs below_of bytes_of Unread arguments status given left old new ⊎ FindsNoInputs Unread status old new
+
+-- What it said at status 0 of the inputs for which its arguments stand, given what is known of the files below each folder, of
+-- the bytes of the file with each name, and of standard input, and what holds if it said nothing: what standard error had
+-- before, and has.
+abbrev pub BestSaid : (below_of : List ℕ → Option (Option (List (List ℕ)))) → (bytes_of : List ℕ → Option (List ℕ)) → (given : Option (List ℕ)) → (Silent : Type 0) → BestArguments → (old new : Option (List ℕ)) → Type 0
+BestSaid below_of bytes_of given Silent arguments old new =
+    (sources : List Source) × (count : ℕ) × AreInputs below_of arguments.files.items sources count
+    × SaysOfFiles (files_note arguments.ruleset sources count) Silent (knowns_of bytes_of given sources) old new

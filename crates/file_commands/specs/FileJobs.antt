@@ -29,15 +29,15 @@ AsksForFileJob command (job.Compare arguments) = (command.0 ≡ compare_name) ×
 AsksForFileJob command (job.Page arguments) = (command.0 ≡ page_name) × AsksForPage command.1 arguments
 
 -- What a job did to the writer of its text, by its exit status: 0 if all was done, 1 for a usage error, 2 if reading, writing
--- or memory failed, 3 for an unreadable solution file. Given are what is known of the bytes of the file with each name, and
--- what holds if standard input was not read; then what standard input had and has left, and the output before and after.
-abbrev pub FileJobRan : (bytes_of : List ℕ → Option (List ℕ)) → (Unread : Type 0) → FileJob → (status : ℕ) → (had left old new : Option (List ℕ)) → Type 0
-FileJobRan bytes_of Unread (job.Show arguments) status had left old new = ShowRan bytes_of Unread arguments status had left old new
-FileJobRan bytes_of Unread (job.Pack arguments) status had left old new = PackRan bytes_of Unread arguments status had left old new
-FileJobRan bytes_of Unread (job.Without arguments) status had left old new = WithoutRan bytes_of Unread arguments status had left old new
-FileJobRan bytes_of Unread (job.Best arguments) status had left old new = BestRan bytes_of Unread arguments status had left old new
-FileJobRan bytes_of Unread (job.Compare arguments) status had left old new = Unread × CompareRan bytes_of arguments status old new
-FileJobRan bytes_of Unread (job.Page arguments) status had left old new = PageRan bytes_of Unread arguments status had left old new
+-- or memory failed, 3 for an unreadable solution file. Given are what is known of the files below each folder, and of the bytes
+-- of the file with each name, and what holds if standard input was not read; then what standard input had and has left, and the output before and after.
+abbrev pub FileJobRan : (below_of : List ℕ → Option (Option (List (List ℕ)))) → (bytes_of : List ℕ → Option (List ℕ)) → (Unread : Type 0) → FileJob → (status : ℕ) → (had left old new : Option (List ℕ)) → Type 0
+FileJobRan below_of bytes_of Unread (job.Show arguments) status had left old new = ShowRan bytes_of Unread arguments status had left old new
+FileJobRan below_of bytes_of Unread (job.Pack arguments) status had left old new = PackRan bytes_of Unread arguments status had left old new
+FileJobRan below_of bytes_of Unread (job.Without arguments) status had left old new = WithoutRan bytes_of Unread arguments status had left old new
+FileJobRan below_of bytes_of Unread (job.Best arguments) status had left old new = BestRan below_of bytes_of Unread arguments status had left old new
+FileJobRan below_of bytes_of Unread (job.Compare arguments) status had left old new = Unread × CompareRan bytes_of arguments status old new
+FileJobRan below_of bytes_of Unread (job.Page arguments) status had left old new = PageRan bytes_of Unread arguments status had left old new
 
 -- the file that a job is to write, if one was named
 abbrev pub output_of : FileJob → Option Text
@@ -59,16 +59,16 @@ spills to_terminal (job.Page arguments) = false
 
 -- What a job did, given also whether standard output is a terminal, what is known of a draft for each file, and of the files
 -- afterwards, and what holds if nothing was written to standard output.
-abbrev pub FileJobRuns : (to_terminal : Bool) → (bytes_of drafted_of now : List ℕ → Option (List ℕ)) → (Unread Unwritten : Type 0) → FileJob → (status : ℕ) → (had left old new : Option (List ℕ)) → Type 0
-FileJobRuns to_terminal bytes_of drafted_of now Unread Unwritten job status had left old new =
-    WritesTo (output_of job) (spills to_terminal job) (λ s o n. FileJobRan bytes_of Unread job s had left o n) Unread Unwritten status drafted_of bytes_of now old new
+abbrev pub FileJobRuns : (to_terminal : Bool) → (below_of : List ℕ → Option (Option (List (List ℕ)))) → (bytes_of drafted_of now : List ℕ → Option (List ℕ)) → (Unread Unwritten : Type 0) → FileJob → (status : ℕ) → (had left old new : Option (List ℕ)) → Type 0
+FileJobRuns to_terminal below_of bytes_of drafted_of now Unread Unwritten job status had left old new =
+    WritesTo (output_of job) (spills to_terminal job) (λ s o n. FileJobRan below_of bytes_of Unread job s had left o n) Unread Unwritten status drafted_of bytes_of now old new
 
 -- What a job said on standard error at status 0, given what is known of the bytes of the file with each name and of standard
 -- input, and what holds if it said nothing: what standard error had before, and has.
-abbrev pub FileJobSaid : (bytes_of : List ℕ → Option (List ℕ)) → (given : Option (List ℕ)) → (Silent : Type 0) → FileJob → (old new : Option (List ℕ)) → Type 0
-FileJobSaid bytes_of given Silent (job.Show arguments) old new = Silent
-FileJobSaid bytes_of given Silent (job.Pack arguments) old new = Silent
-FileJobSaid bytes_of given Silent (job.Without arguments) old new = WithoutSaid bytes_of given Silent arguments old new
-FileJobSaid bytes_of given Silent (job.Best arguments) old new = BestSaid bytes_of given Silent arguments old new
-FileJobSaid bytes_of given Silent (job.Compare arguments) old new = CompareSaid bytes_of Silent arguments old new
-FileJobSaid bytes_of given Silent (job.Page arguments) old new = Silent
+abbrev pub FileJobSaid : (below_of : List ℕ → Option (Option (List (List ℕ)))) → (bytes_of : List ℕ → Option (List ℕ)) → (given : Option (List ℕ)) → (Silent : Type 0) → FileJob → (old new : Option (List ℕ)) → Type 0
+FileJobSaid below_of bytes_of given Silent (job.Show arguments) old new = Silent
+FileJobSaid below_of bytes_of given Silent (job.Pack arguments) old new = Silent
+FileJobSaid below_of bytes_of given Silent (job.Without arguments) old new = WithoutSaid bytes_of given Silent arguments old new
+FileJobSaid below_of bytes_of given Silent (job.Best arguments) old new = BestSaid below_of bytes_of given Silent arguments old new
+FileJobSaid below_of bytes_of given Silent (job.Compare arguments) old new = CompareSaid bytes_of Silent arguments old new
+FileJobSaid below_of bytes_of given Silent (job.Page arguments) old new = Silent

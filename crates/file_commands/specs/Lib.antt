@@ -1,6 +1,7 @@
 pub mod Notes
 pub mod Without
 pub mod Best
+pub mod BestFiles
 pub mod Compare
 pub mod Page
 pub mod Knowing

@@ -1,6 +1,6 @@
 -- What is said of several files on standard error: which is of another ruleset, and which names another level set than the
--- first that names one.
-use Rattle.std.specs.Prelude.{ℕ, zero, suc, ◌+◌, Bool, true, false, List, [], ◌∷◌, ◌++◌, Option, Some, None, codes, string_bytes}
+-- first that names one; of those that were found in folders only how many.
+use Rattle.std.specs.Prelude.{ℕ, zero, suc, ◌+◌, nat_eq, nat_lt, Bool, true, false, List, [], ◌∷◌, ◌++◌, Option, Some, None, codes, decimal, string_bytes}
 use Rattle.std.specs.Str.{bytes_eq}
 use Rattle.tws_file.specs.declared.«ruleset».Ruleset.{Ruleset}
 use Rattle.tws_file.specs.declared.«ruleset».Ruleset.TheVariants.{Lynx, Ms}
@@ -16,6 +16,11 @@ use Rattle.command_line.specs.declared.tool_fault.ToolFault.TheVariants.{Read, W
 abbrev pub unless : Bool → List ℕ → List ℕ
 unless true words = []
 unless false words = words
+
+-- none if this holds, and otherwise one
+abbrev pub one_unless : Bool → ℕ
+one_unless true = 0
+one_unless false = 1
 
 -- why nothing, or not all, was said
 abbrev pub IsSayFault : ToolFault → Type 0
@@ -52,6 +57,14 @@ pub record SetNaming : Type 0 where
 abbrev pub set_line : (first : SetNaming) → (name other : List ℕ) → List ℕ
 set_line first name other = codes "tws: " ++ (name ++ (codes ": the file is of the level set " ++ (shown_name other ++ (codes ", and " ++ (first.by_file ++ (codes " of " ++ line (shown_name first.named)))))))
 
+-- so many files in folders are of this ruleset, which is not the one that was asked for
+abbrev pub rulesets_line : Ruleset → (count : ℕ) → List ℕ
+rulesets_line rules count = codes "tws: files of the ruleset " ++ (ruleset_name rules ++ (codes " in folders: " ++ line (decimal count)))
+
+-- so many files in folders name another level set than the first that names one
+abbrev pub sets_line : (first : SetNaming) → (count : ℕ) → List ℕ
+sets_line first count = codes "tws: files of another level set than " ++ (shown_name first.named ++ (codes " of " ++ (first.by_file ++ (codes " in folders: " ++ line (decimal count)))))
+
 -- ---- a file after others
 
 abbrev pub ruleset_note : (rules its : Ruleset) → (name : List ℕ) → List ℕ
@@ -79,31 +92,81 @@ first_naming None name None = None
 first_naming None name (Some other) = Some (record { by_file = name; named = other })
 first_naming (Some first) name other = Some first
 
+-- ---- a file in a folder after others
+
+-- whether it is of the other ruleset, as a number
+abbrev pub other_rules : (rules its : Ruleset) → ℕ
+other_rules Lynx Lynx = 0
+other_rules Lynx Ms = 1
+other_rules Ms Lynx = 1
+other_rules Ms Ms = 0
+
+-- whether it names another level set, as a number
+abbrev pub other_sets : Option SetNaming → (other : Option (List ℕ)) → ℕ
+other_sets None None = 0
+other_sets None (Some other) = 0
+other_sets (Some first) None = 0
+other_sets (Some first) (Some other) = one_unless (bytes_eq first.named other)
+
+-- what is said of so many that are of the other ruleset
+abbrev pub rulesets_note : (rules : Ruleset) → (count : ℕ) → List ℕ
+rulesets_note Lynx count = unless (nat_eq count 0) (rulesets_line Ms count)
+rulesets_note Ms count = unless (nat_eq count 0) (rulesets_line Lynx count)
+
+-- what is said of so many that name another level set
+abbrev pub other_sets_note : Option SetNaming → (count : ℕ) → List ℕ
+other_sets_note None count = []
+other_sets_note (Some first) count = unless (nat_eq count 0) (sets_line first count)
+
 -- ---- several files
 
--- what was said of files, and the first of them that names a level set
+-- what was said of files, the first of them that names a level set, and how many in folders are of the other ruleset or name
+-- another level set
 pub record Said : Type 0 where
   pub said_text : List ℕ
   pub first_set : Option SetNaming
+  pub rules_count : ℕ
+  pub sets_count : ℕ
 
 -- after one more: a file of another ruleset is not asked for its level set
 abbrev pub said_after : (rules : Ruleset) → Said → (name : List ℕ) → File → Said
 said_after rules said name file = record {
   said_text = (said.said_text ++ ruleset_note rules file.ruleset name) ++ set_note said.first_set name (set_in rules file.ruleset (set_name_of file));
   first_set = first_naming said.first_set name (set_in rules file.ruleset (set_name_of file));
+  rules_count = said.rules_count;
+  sets_count = said.sets_count;
 }
 
--- after the files from the inputs with this index and the next ones
-abbrev pub said_of : (rules : Ruleset) → List Source → (index : ℕ) → Said → List File → Said
-said_of rules sources index said [] = said
-said_of rules sources index said (file ∷ files) = said_of rules sources (index + 1) (said_after rules said (name_at sources index) file) files
+-- after one more that was found in a folder
+abbrev pub counted_after : (rules : Ruleset) → Said → (name : List ℕ) → File → Said
+counted_after rules said name file = record {
+  said_text = said.said_text;
+  first_set = first_naming said.first_set name (set_in rules file.ruleset (set_name_of file));
+  rules_count = said.rules_count + other_rules rules file.ruleset;
+  sets_count = said.sets_count + other_sets said.first_set (set_in rules file.ruleset (set_name_of file));
+}
+
+-- after one more, by whether it was named
+abbrev pub noted_after : (is_named : Bool) → (rules : Ruleset) → Said → (name : List ℕ) → File → Said
+noted_after true rules said name file = said_after rules said name file
+noted_after false rules said name file = counted_after rules said name file
+
+-- after the files from the inputs with this index and the next ones, of which those up to `named` were named
+abbrev pub said_of : (rules : Ruleset) → List Source → (named index : ℕ) → Said → List File → Said
+said_of rules sources named index said [] = said
+said_of rules sources named index said (file ∷ files) =
+    said_of rules sources named (index + 1) (noted_after (nat_lt index named) rules said (name_at sources index) file) files
 
 abbrev pub nothing_said : Said
-nothing_said = record { said_text = []; first_set = None }
+nothing_said = record { said_text = []; first_set = None; rules_count = 0; sets_count = 0 }
 
--- what is said of the files from all inputs
-abbrev pub files_note : (rules : Ruleset) → List Source → List File → List ℕ
-files_note rules sources files = (said_of rules sources 0 nothing_said files).said_text
+-- what is said in the end
+abbrev pub said_in_all : (rules : Ruleset) → Said → List ℕ
+said_in_all rules said = (said.said_text ++ rulesets_note rules said.rules_count) ++ other_sets_note said.first_set said.sets_count
+
+-- what is said of the files from all inputs, of which the first were named
+abbrev pub files_note : (rules : Ruleset) → List Source → (named : ℕ) → List File → List ℕ
+files_note rules sources named files = said_in_all rules (said_of rules sources named 0 nothing_said files)
 
 -- what is said of two files of one ruleset with these names
 abbrev pub sets_note : (mine_name : List ℕ) (mine : File) (theirs_name : List ℕ) (theirs : File) → List ℕ

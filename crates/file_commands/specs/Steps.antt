@@ -9,8 +9,8 @@ use Rattle.file_commands.specs.Notes.{Said, said_of}
 
 -- what was said so far
 abbrev pub said_in : Notes → Said
-said_in notes = record { said_text = string_bytes notes.text; first_set = notes.first }
+said_in notes = record { said_text = string_bytes notes.text; first_set = notes.first; rules_count = notes.rules_count; sets_count = notes.sets_count }
 
 -- these inputs have files, of which that was said
-abbrev pub AreNoted : (rules : Ruleset) → List Source → (before after : Notes) → List (Option (List ℕ)) → Type 0
-AreNoted rules sources before after knowns = (files : List File) × AreFiles knowns files × (said_in after ≡ said_of rules sources 0 (said_in before) files)
+abbrev pub AreNoted : (rules : Ruleset) → List Source → (named : ℕ) → (before after : Notes) → List (Option (List ℕ)) → Type 0
+AreNoted rules sources named before after knowns = (files : List File) × AreFiles knowns files × (said_in after ≡ said_of rules sources named 0 (said_in before) files)

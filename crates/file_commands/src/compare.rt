@@ -14,7 +14,7 @@ ghost use Rattle.file_commands.specs.Notes.{IsSayFault};
 use crate::notes::sets_note;
 use byte_output::put;
 use clap::{Arg, ArgAction, ArgMatches, Command};
-use command_line::{DONE, ToolFault, USAGE, new_command, report, report_file, say, string_given};
+use command_line::{DONE, ToolFault, USAGE, new_command, open_named, report, say, string_given};
 use show_commands::{output_argument, read_input};
 use std::alloc::{AllocError, Global};
 use std::io::{Read, Write};
@@ -287,15 +287,13 @@ pub(crate) fn run<S: FileSystem, W: Write, E: Write>(
     ensures unreadable { result ≡ 3 → out.new ≡ out.old }
     ensures said { result ≡ 0 → CompareSaid (S.bytes_of system.now) (errors.new ≡ errors.old) arguments.now (E.contents errors.old) (E.contents errors.new) }
 {
-    let mut mine = match system.open(arguments.mine.as_str()) {
+    let mut mine = match open_named(system, arguments.mine.as_str(), errors) {
         Ok(file) => file,
-        Err(cause) => return report_file(ToolFault::Read, arguments.mine.as_str(), &cause, errors),
+        Err(status) => return status,
     };
-    let mut theirs = match system.open(arguments.theirs.as_str()) {
+    let mut theirs = match open_named(system, arguments.theirs.as_str(), errors) {
         Ok(file) => file,
-        Err(cause) => {
-            return report_file(ToolFault::Read, arguments.theirs.as_str(), &cause, errors);
-        }
+        Err(status) => return status,
     };
     let done = run_compare(alloc, arguments, &mut mine, &mut theirs, out, errors);
     end(done, arguments, errors)

@@ -115,11 +115,11 @@ fn write_file_job<S: FileSystem, R: Read, W: Write, E: Write>(
     out: &mut W,
     errors: &mut E,
 ) -> u8
-    ensures ran { FileJobRan (S.bytes_of system.now) (input.new ≡ input.old) job.now result (R.remaining input.old) (R.remaining input.new) (W.contents out.old) (W.contents out.new) }
+    ensures ran { FileJobRan (S.below_of system.now) (S.bytes_of system.now) (input.new ≡ input.old) job.now result (R.remaining input.old) (R.remaining input.new) (W.contents out.old) (W.contents out.new) }
     ensures usage { result ≡ 1 → (input.new ≡ input.old) × (out.new ≡ out.old) }
     ensures few { result ≤ 3 }
     ensures unreadable { result ≡ 3 → out.new ≡ out.old }
-    ensures said { result ≡ 0 → FileJobSaid (S.bytes_of system.now) (R.remaining input.old) (errors.new ≡ errors.old) job.now (E.contents errors.old) (E.contents errors.new) }
+    ensures said { result ≡ 0 → FileJobSaid (S.below_of system.now) (S.bytes_of system.now) (R.remaining input.old) (errors.new ≡ errors.old) job.now (E.contents errors.old) (E.contents errors.new) }
 {
     match job {
         FileJob::Show(arguments) => show::run(system, alloc, arguments, input, out, errors),
@@ -140,10 +140,10 @@ fn run_into_file<S: FileSystem, R: Read, E: Write>(
     input: &mut R,
     errors: &mut E,
 ) -> u8
-    ensures ran { (made : ℕ) × (text : List ℕ) × FileJobRan (S.bytes_of system.old) (input.new ≡ input.old) job.now made (R.remaining input.old) (R.remaining input.new) (Some []) (Some text) × Saves name.now text made result (S.drafted_of system.old name.now) (S.bytes_of system.old) (S.bytes_of system.new) }
+    ensures ran { (made : ℕ) × (text : List ℕ) × FileJobRan (S.below_of system.old) (S.bytes_of system.old) (input.new ≡ input.old) job.now made (R.remaining input.old) (R.remaining input.new) (Some []) (Some text) × Saves name.now text made result (S.drafted_of system.old name.now) (S.bytes_of system.old) (S.bytes_of system.new) }
     ensures usage { result ≡ 1 → input.new ≡ input.old }
     ensures few { result ≤ 3 }
-    ensures said { result ≡ 0 → FileJobSaid (S.bytes_of system.old) (R.remaining input.old) (errors.new ≡ errors.old) job.now (E.contents errors.old) (E.contents errors.new) }
+    ensures said { result ≡ 0 → FileJobSaid (S.below_of system.old) (S.bytes_of system.old) (R.remaining input.old) (errors.new ≡ errors.old) job.now (E.contents errors.old) (E.contents errors.new) }
 {
     let mut text = Vec::new(alloc);
     let made = write_file_job(system, alloc, job, input, &mut text, errors);
@@ -162,12 +162,12 @@ pub fn run_file_job<S: FileSystem, R: Read, W: Write, E: Write>(
     out: &mut W,
     errors: &mut E,
 ) -> u8
-    ensures ran { FileJobRuns to_terminal (S.bytes_of system.old) (S.drafted_of system.old) (S.bytes_of system.new) (input.new ≡ input.old) (out.new ≡ out.old) job.now result (R.remaining input.old) (R.remaining input.new) (W.contents out.old) (W.contents out.new) }
+    ensures ran { FileJobRuns to_terminal (S.below_of system.old) (S.bytes_of system.old) (S.drafted_of system.old) (S.bytes_of system.new) (input.new ≡ input.old) (out.new ≡ out.old) job.now result (R.remaining input.old) (R.remaining input.new) (W.contents out.old) (W.contents out.new) }
     // The clauses below hold also for readers and writers without ghost contents.
     ensures usage { result ≡ 1 → (input.new ≡ input.old) × (out.new ≡ out.old) }
     ensures few { result ≤ 3 }
     ensures unreadable { result ≡ 3 → out.new ≡ out.old }
-    ensures said { result ≡ 0 → FileJobSaid (S.bytes_of system.old) (R.remaining input.old) (errors.new ≡ errors.old) job.now (E.contents errors.old) (E.contents errors.new) }
+    ensures said { result ≡ 0 → FileJobSaid (S.below_of system.old) (S.bytes_of system.old) (R.remaining input.old) (errors.new ≡ errors.old) job.now (E.contents errors.old) (E.contents errors.new) }
 {
     if let Some(name) = job.output() {
         return run_into_file(system, alloc, job, name, input, errors);

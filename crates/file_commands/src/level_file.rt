@@ -4,7 +4,7 @@ ghost use Rattle.std.specs.Prelude.{◌≡◌, ◌≢◌, [], IfOk, IfErr, OnOk,
 ghost use Rattle.tws_tables.specs.Levels.{levels_in};
 ghost use Rattle.file_commands.specs.Page.{AreGiven, AreNotGiven, GivesNoList, HasNoLevel, IsLevelList};
 
-use command_line::{ToolFault, UNREADABLE, report, report_file};
+use command_line::{ToolFault, UNREADABLE, open_named, report};
 use show_commands::read_bytes;
 use std::alloc::{AllocError, Global};
 use std::io::Write;
@@ -48,9 +48,9 @@ fn read_list<S: FileSystem, E: Write>(
     ensures none { IfErr result (GivesNoList (S.bytes_of system.now name.now)) }
     ensures silent { OnOk result (errors.new ≡ errors.old) }
 {
-    let mut file = match system.open(name) {
+    let mut file = match open_named(system, name, errors) {
         Ok(file) => file,
-        Err(cause) => return Err(report_file(ToolFault::Read, name, &cause, errors)),
+        Err(status) => return Err(status),
     };
     let bytes = match read_bytes(alloc, &mut file) {
         Ok(bytes) => bytes,

@@ -8,6 +8,7 @@
 #![tactic(auto)]
 
 mod best;
+mod best_files;
 mod compare;
 mod file_job;
 mod level_file;

@@ -203,7 +203,8 @@ pub(crate) fn run<S: FileSystem, R: Read, W: Write, E: Write>(
                 title: &arguments.title,
                 levels: &levels,
             };
-            run_several_inputs(&plan, system, alloc, sources, input, out, errors)
+            let count = sources.len();
+            run_several_inputs(&plan, system, alloc, sources, count, input, out, errors)
         }
         Err(status) => status,
     }

@@ -12,7 +12,9 @@
 mod announced_input;
 mod arguments;
 mod input;
+mod input_file;
 mod inputs;
+mod not_opened;
 mod one_input;
 mod opening;
 mod output;

@@ -8,7 +8,7 @@ ghost use Rattle.command_line.specs.Inputs.{known_of};
 ghost use Rattle.show_commands.specs.Saying.{SaysOf};
 ghost use Rattle.show_commands.specs.Written.{RanFrom, Writes, WriteFails};
 
-use command_line::{Source, ToolFault, finish, report_file};
+use command_line::{Source, ToolFault, finish, open_named};
 use std::alloc::Global;
 use std::io::{Read, Write};
 use std::slice;
@@ -69,12 +69,12 @@ pub fn run_one_input<C: OneInputCommand, S: FileSystem, R: Read, W: Write, E: Wr
             let done = command.run_over(alloc, input, out, errors);
             finish(done, &[], errors)
         }
-        Source::Named(name) => match system.open(name.as_str()) {
+        Source::Named(name) => match open_named(system, name.as_str(), errors) {
             Ok(mut file) => {
                 let done = command.run_over(alloc, &mut file, out, errors);
                 finish(done, slice::from_ref(name), errors)
             }
-            Err(cause) => report_file(ToolFault::Read, name.as_str(), &cause, errors),
+            Err(status) => status,
         },
     }
 }

@@ -3,9 +3,12 @@
 ghost use Rattle.std.specs.Prelude.{◌≡◌};
 ghost use Rattle.command_line.specs.Faults.{status_of, answer_status};
 
+use crate::input_file::InputFile;
 use command_line::{DONE, Source, ToolFault, report, report_file};
+use either::Either;
 use std::io::Write;
 use std::{io, slice};
+use system_files::FileSystem;
 
 // The names of the input with this index, as `report` takes them: standard input has none.
 fn names_at(sources: &[Source], index: usize) -> &[String] {
@@ -15,8 +18,8 @@ fn names_at(sources: &[Source], index: usize) -> &[String] {
     }
 }
 
-/// Reports why a command of several inputs failed, as `report` does, and returns the status.
-pub(crate) fn report_among<E: Write>(fault: ToolFault, sources: &[Source], errors: &mut E) -> u8
+// Reports why a command of several inputs failed, as `report` does, and returns the status.
+fn report_among<E: Write>(fault: ToolFault, sources: &[Source], errors: &mut E) -> u8
     ensures { result ≡ status_of fault }
 {
     match fault {
@@ -28,10 +31,38 @@ pub(crate) fn report_among<E: Write>(fault: ToolFault, sources: &[Source], error
     }
 }
 
-/// Reports why a command of several inputs failed, if it did, and returns the status.
-pub(crate) fn finish_among<E: Write>(
+// The name of the first of these files that could not be read on, if one could not, and what the system said.
+fn unread<'a, S: FileSystem>(
+    inputs: &'a [Either<InputFile<'_, S>, &[u8]>],
+) -> Option<(&'a str, io::Error)> {
+    for input in inputs {
+        if let Either::Left(file) = input {
+            if let Some(cause) = file.error() {
+                return Some((file.name(), cause));
+            }
+        }
+    }
+    None
+}
+
+// Reports that an input could not be read: if the system said why, by the name of that file.
+fn report_unread<S: FileSystem, E: Write>(
+    inputs: &[Either<InputFile<'_, S>, &[u8]>],
+    errors: &mut E,
+) -> u8
+    ensures { result ≡ 2 }
+{
+    match unread(inputs) {
+        Some((name, cause)) => report_file(ToolFault::Read, name, &cause, errors),
+        None => report(ToolFault::Read, &[], errors),
+    }
+}
+
+/// Reports why a command over these inputs failed, if it did, and returns the status.
+pub(crate) fn finish_among<S: FileSystem, E: Write>(
     done: Result<(), ToolFault>,
     sources: &[Source],
+    inputs: &[Either<InputFile<'_, S>, &[u8]>],
     errors: &mut E,
 ) -> u8
     ensures status { result ≡ answer_status done }
@@ -39,22 +70,7 @@ pub(crate) fn finish_among<E: Write>(
 {
     match done {
         Ok(()) => DONE,
+        Err(ToolFault::Read) => report_unread(inputs, errors),
         Err(fault) => report_among(fault, sources, errors),
     }
-}
-
-/// Reports that the input with this index cannot be opened, and why, and returns the status.
-pub(crate) fn report_unopened<E: Write>(
-    sources: &[Source],
-    index: usize,
-    cause: &io::Error,
-    errors: &mut E,
-) -> u8
-    ensures { result ≡ 2 }
-{
-    let name = match sources.get(index) {
-        Some(Source::Named(name)) => name.as_str(),
-        _ => "standard input",
-    };
-    report_file(ToolFault::Read, name, cause, errors)
 }

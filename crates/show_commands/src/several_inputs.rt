@@ -1,16 +1,18 @@
 //! A command of several inputs: it reads solution files, and writes one text of all of them.
 
-ghost use Rattle.std.specs.Prelude.{◌≡◌, ◌≢◌, ◌≤◌, ℕ, List, [], Option, Some, map, OnOk, IfErr};
+ghost use Rattle.std.specs.Prelude.{◌≡◌, ◌≢◌, ◌≤◌, ℕ, List, [], Option, Some, map, take, OnOk, IfErr};
 ghost use Rattle.tws_file.specs.Text.{File};
 ghost use Rattle.command_line.specs.Faults.{IsBeforeOutput};
 ghost use Rattle.command_line.specs.Inputs.{knowns_of};
+ghost use Rattle.show_commands.specs.Opening.{CanOpenAll};
 ghost use Rattle.show_commands.specs.Saying.{SaysOfFiles};
 ghost use Rattle.show_commands.specs.SeveralInputs.{AreLessKnown, FilesFail, FilesRan, FilesRanFrom};
 
-use crate::opening::{NotOpened, open_all};
-use crate::reporting::{finish_among, report_unopened};
+use crate::not_opened::NotOpened;
+use crate::opening::open_all;
+use crate::reporting::finish_among;
 use crate::standard::{has_standard, read_bytes};
-use command_line::{Source, ToolFault, report};
+use command_line::{FAILED, Source, ToolFault, report};
 use std::alloc::Global;
 use std::io::{Read, Write};
 use system_files::FileSystem;
@@ -61,21 +63,23 @@ fn run_opened<C: SeveralInputsCommand, S: FileSystem, W: Write, E: Write>(
     system: &S,
     alloc: Global,
     sources: &[Source],
+    at_once: usize,
     standard: &[u8],
     out: &mut W,
     errors: &mut E,
 ) -> u8
     ensures ran { let knowns = knowns_of (S.bytes_of system.now) (Some standard.now) sources.now in FilesRan (C.writes command.now knowns (W.contents out.old) (W.contents out.new)) (C.prefix command.now knowns (W.contents out.old) (W.contents out.new)) knowns result (W.contents out.old) (W.contents out.new) }
     ensures unreadable { result ≡ 3 → out.new ≡ out.old }
+    ensures opened { result ≢ 2 → CanOpenAll (S.opens_of system.now) (take at_once sources.now) }
     ensures said { result ≡ 0 → SaysOfFiles (C.says command.now) (errors.new ≡ errors.old) (knowns_of (S.bytes_of system.now) (Some standard.now) sources.now) (E.contents errors.old) (E.contents errors.new) }
 {
-    match open_all(system, alloc, sources, standard) {
+    match open_all(system, alloc, sources, at_once, standard, errors) {
         Ok(mut inputs) => {
             let done = command.run_over(alloc, &mut inputs, out, errors);
-            finish_among(done, sources, errors)
+            finish_among(done, sources, &inputs, errors)
         }
         Err(NotOpened::Memory) => report(ToolFault::Memory, &[], errors),
-        Err(NotOpened::File { index, cause }) => report_unopened(sources, index, &cause, errors),
+        Err(NotOpened::Reported) => FAILED,
     }
 }
 
@@ -83,13 +87,15 @@ fn run_opened<C: SeveralInputsCommand, S: FileSystem, W: Write, E: Write>(
 /// writing or memory failed, 3 for an input that is not a solution file. A fault goes to `errors`, and before it, or at
 /// status 0 alone, what the command says.
 ///
-/// Files are opened by their names in `system`, all of them before one is read. Standard input, if it is among the
-/// inputs, is read whole before any other, and is the same each time that it is named.
+/// Files are opened by their names in `system`: those of the first `at_once` sources before one is read, and each other one when
+/// it is read, so that the others may be more than a program may have open. Standard input, if it is among the inputs, is read
+/// whole before any other, and is the same each time that it is named.
 pub fn run_several_inputs<C: SeveralInputsCommand, S: FileSystem, R: Read, W: Write, E: Write>(
     command: &C,
     system: &S,
     alloc: Global,
     sources: &[Source],
+    at_once: usize,
     input: &mut R,
     out: &mut W,
     errors: &mut E,
@@ -99,13 +105,17 @@ pub fn run_several_inputs<C: SeveralInputsCommand, S: FileSystem, R: Read, W: Wr
     ensures usage { result ≢ 1 }
     ensures few { result ≤ 3 }
     ensures unreadable { result ≡ 3 → out.new ≡ out.old }
+    // Whatever the status but 2, each of the first files was opened.
+    ensures opened { result ≢ 2 → CanOpenAll (S.opens_of system.now) (take at_once sources.now) }
     ensures said { result ≡ 0 → SaysOfFiles (C.says command.now) (errors.new ≡ errors.old) (knowns_of (S.bytes_of system.now) (R.remaining input.old) sources.now) (E.contents errors.old) (E.contents errors.new) }
 {
     if !has_standard(sources) {
-        return run_opened(command, system, alloc, sources, &[], out, errors);
+        return run_opened(command, system, alloc, sources, at_once, &[], out, errors);
     }
     match read_bytes(alloc, input) {
-        Ok(bytes) => run_opened(command, system, alloc, sources, &bytes, out, errors),
+        Ok(bytes) => run_opened(
+            command, system, alloc, sources, at_once, &bytes, out, errors,
+        ),
         Err(fault) => report(fault, &[], errors),
     }
 }

@@ -214,5 +214,6 @@ pub fn run<S: FileSystem, R: Read, W: Write, E: Write>(
     if sources.len() == 1 {
         return run_one_input(arguments, system, alloc, &sources[0], input, out, errors);
     }
-    run_several_inputs(arguments, system, alloc, sources, input, out, errors)
+    let count = sources.len();
+    run_several_inputs(arguments, system, alloc, sources, count, input, out, errors)
 }

@@ -1,5 +1,12 @@
 -- Files by their names, and how they change.
-use Rattle.std.specs.Prelude.{◌≡◌, ◌≢◌, ℕ, List, Option, Some, IfSome}
+use Rattle.std.specs.Prelude.{◌≡◌, ◌≢◌, ℕ, Bool, true, false, List, Option, Some, IfSome}
+
+-- a file can be opened, as far as that is known
+abbrev pub CanOpen : (opens : Option Bool) → Type 0
+CanOpen opens = IfSome opens (λ (it : Bool). it ≡ true)
+
+abbrev pub CannotOpen : (opens : Option Bool) → Type 0
+CannotOpen opens = IfSome opens (λ (it : Bool). it ≡ false)
 
 -- each file whose bytes were known still has them
 abbrev pub Keeps : (before after : List ℕ → Option (List ℕ)) → Type 0

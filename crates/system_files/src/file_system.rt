@@ -1,8 +1,9 @@
 //! Files by their names.
 
-ghost use Rattle.std.specs.Prelude.{◌≡◌, ℕ, List, Option, OnOk, OnErr, IfOk};
-ghost use Rattle.system_files.specs.Files.{Keeps, Publishes};
+ghost use Rattle.std.specs.Prelude.{◌≡◌, ℕ, Bool, List, Option, OnOk, OnErr, IfOk, IfSome, map, option_map, string_bytes};
+ghost use Rattle.system_files.specs.Files.{CanOpen, CannotOpen, Keeps, Publishes};
 
+use crate::unlisted::Unlisted;
 use std::io;
 use std::io::{Read, Write};
 
@@ -20,13 +21,30 @@ pub trait FileSystem {
     /// The contents of a draft that was just begun for a name, if they are known.
     ghost drafted_of: { Self → List ℕ → Option (List ℕ) };
 
+    /// Whether the file of a name can be opened, if that is known.
+    ghost opens_of: { Self → List ℕ → Option Bool };
+
+    /// The names of the solution files below the folder of a name, or nothing if it is no folder's, if that is known.
+    ghost below_of: { Self → List ℕ → Option (Option (List (List ℕ))) };
+
     /// Opens the file of this name, to be read from its start.
     ///
     /// # Errors
     ///
-    /// Fails if there is no such file, or it cannot be opened.
+    /// Fails if there is no such file, or it cannot be opened, as a folder.
     fn open(&self, name: &str) -> io::Result<Self::File>
-        ensures { IfOk result (λ file. Self.File.remaining file ≡ bytes_of self.now name.now) };
+        ensures opened { IfOk result (λ file. Self.File.remaining file ≡ bytes_of self.now name.now) }
+        ensures can { OnOk result (CanOpen (opens_of self.now name.now)) }
+        ensures cannot { OnErr result (CannotOpen (opens_of self.now name.now)) };
+
+    /// The names of the solution files below the folder of this name, those of each folder in order; `None` if it is no
+    /// folder's, also if there is nothing of this name.
+    ///
+    /// # Errors
+    ///
+    /// `Folder` if this folder or one below it cannot be listed, `Memory` if an allocation was refused.
+    fn files_below(&self, name: &str) -> Result<Option<Vec<String>>, Unlisted>
+        ensures { IfOk result (λ found. IfSome (below_of self.now name.now) (λ known. option_map (λ files. map string_bytes files.items) found ≡ known)) };
 
     /// Begins what is to become the contents of the file of this name. If there is no such file it is created, and is
     /// empty; otherwise it stays as it is.

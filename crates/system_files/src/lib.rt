@@ -7,12 +7,15 @@
 mod draft_file;
 mod file_system;
 mod permissions;
+mod solution_files;
 mod system;
 mod system_draft;
+mod unlisted;
 mod with_last_error;
 
 pub use file_system::FileSystem;
 pub use permissions::permissions_kept;
 pub use system::{System, SystemFile};
 pub use system_draft::SystemDraft;
+pub use unlisted::Unlisted;
 pub use with_last_error::WithLastError;

@@ -1,10 +1,12 @@
 //! The system's files.
 
-ghost use Rattle.std.specs.Prelude.{None};
+ghost use Rattle.std.specs.Prelude.{◌≡◌, None, IfOk};
 
 use crate::draft_file::DraftFile;
 use crate::file_system::FileSystem;
+use crate::solution_files::solution_files_below;
 use crate::system_draft::{Place, SystemDraft};
+use crate::unlisted::Unlisted;
 use std::fs::{File, OpenOptions};
 use std::io::{ErrorKind, Read};
 use std::os::unix::fs::FileTypeExt;
@@ -30,7 +32,9 @@ impl Read for SystemFile {
 
 impl<P: Files<File = File> + RandomSource + AllocGlobal + Copy> System<P> {
     // A draft that is written into the file itself, which is not a regular one.
-    fn begin_itself(&self, name: &str, is_fifo: bool) -> io::Result<SystemDraft<P>> {
+    fn begin_itself(&self, name: &str, is_fifo: bool) -> io::Result<SystemDraft<P>>
+        ensures { IfOk result (λ draft. draft.written ≡ 0) }
+    {
         // A FIFO that nobody reads would not be opened to be written. One that is open to be read and written is: without
         // another reader, a write then fails.
         let held = if is_fifo {
@@ -54,7 +58,9 @@ impl<P: Files<File = File> + RandomSource + AllocGlobal + Copy> System<P> {
     // A draft that is written beside a regular file, which is made if there is none and `is_new`. The file has to be one
     // that may be written. What a link leads to is replaced, not the link. The draft is made and removed at once, to see
     // whether that can be done: so none is left if the process ends before the draft is written.
-    fn begin_beside(&self, name: &str, is_new: bool) -> io::Result<SystemDraft<P>> {
+    fn begin_beside(&self, name: &str, is_new: bool) -> io::Result<SystemDraft<P>>
+        ensures { IfOk result (λ draft. draft.written ≡ 0) }
+    {
         let file = OpenOptions::new()
             .write(true)
             .create(is_new)
@@ -76,6 +82,10 @@ impl<P: Files<File = File> + RandomSource + AllocGlobal + Copy> FileSystem for S
 
     ghost drafted_of = { λ _ _. None };
 
+    ghost opens_of = { λ _ _. None };
+
+    ghost below_of = { λ _ _. None };
+
     fn open(&self, name: &str) -> io::Result<SystemFile> {
         let file = fs::open(&self.0, name)?;
         // A folder can be opened, but not read. Its name is still known here.
@@ -85,7 +95,18 @@ impl<P: Files<File = File> + RandomSource + AllocGlobal + Copy> FileSystem for S
         Ok(SystemFile(file))
     }
 
-    fn begin(&mut self, name: &str) -> io::Result<SystemDraft<P>> {
+    // A solution file is a regular one whose name ends in `.tws`, or a link to one. No link to a folder is followed, unless
+    // it is this name itself.
+    fn files_below(&self, name: &str) -> Result<Option<Vec<String>>, Unlisted> {
+        match fs::metadata(&self.0, name) {
+            Ok(metadata) if metadata.is_dir() => { Ok(Some(solution_files_below(&self.0, name)?)) }
+            _ => Ok(None),
+        }
+    }
+
+    fn begin(&mut self, name: &str) -> io::Result<SystemDraft<P>>
+        ensures empty { IfOk result (λ draft. draft.written ≡ 0) }
+    {
         match fs::metadata(&self.0, name) {
             Ok(metadata) => {
                 if metadata.is_file() {

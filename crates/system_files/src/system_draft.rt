@@ -1,6 +1,8 @@
 //! The file that a client's output is written to.
 
-ghost use Rattle.std.specs.Prelude.{◌≤◌, length, IfOk};
+ghost use Rattle.std.specs.Prelude.{◌≡◌, ◌≤◌, ◌+◌, length, None, Some, OnErr, IfOk, IfErr};
+ghost use Rattle.std.specs.Io.{WritesAtMost};
+ghost use Rattle.std.specs.Io.KnownBytes.{WriteAppends};
 
 use crate::draft_file::DraftFile;
 use std::fs::File;
@@ -23,22 +25,37 @@ pub(crate) enum Place {
 pub struct SystemDraft<P: Files<File = File> + RandomSource + AllocGlobal + Copy> {
     rt: P,
     place: Place,
+    // How many bytes were written into it.
+    written: usize,
     // What the system said of the write that failed last, if one has.
     error: Option<io::Error>,
 }
 
 impl<P: Files<File = File> + RandomSource + AllocGlobal + Copy> SystemDraft<P> {
     /// An empty draft that is written there.
-    pub(crate) fn new(rt: P, place: Place) -> Self {
+    pub(crate) fn new(rt: P, place: Place) -> Self
+        ensures written { result.written ≡ 0 }
+        ensures error { result.error ≡ None }
+    {
         SystemDraft {
             rt,
             place,
+            written: 0,
             error: None,
         }
     }
 
+    /// How many bytes were written into it.
+    pub fn written(&self) -> usize
+        ensures { result ≡ self.now.written }
+    {
+        self.written
+    }
+
     /// What the system said of the write that failed last, if one has.
-    pub(crate) fn error(&self) -> Option<io::Error> {
+    pub(crate) fn error(&self) -> Option<io::Error>
+        ensures { result ≡ self.now.error }
+    {
         self.error
     }
 
@@ -75,9 +92,20 @@ impl Place {
 }
 
 impl<P: Files<File = File> + RandomSource + AllocGlobal + Copy> Write for SystemDraft<P> {
-    fn write(&mut self, buf: &[u8]) -> io::Result<usize> {
-        match self.place.write(&self.rt, buf) {
-            Ok(count) => Ok(count),
+    fn write(&mut self, buf: &[u8]) -> io::Result<usize>
+        ensures bound { WritesAtMost result buf.now }
+        ensures bytes { WriteAppends None None result buf.now }
+        ensures written { IfOk result (λ count. self.new.written ≡ self.old.written + count) }
+        ensures kept { OnErr result (self.new.written ≡ self.old.written) }
+        ensures last { IfErr result (λ e. self.new.error ≡ Some e) }
+    {
+        // No more than can be counted.
+        let len = buf.len().min(usize::MAX - self.written);
+        match self.place.write(&self.rt, &buf[..len]) {
+            Ok(count) => {
+                self.written += count;
+                Ok(count)
+            }
             Err(error) => {
                 self.error = Some(error);
                 Err(error)

@@ -12,7 +12,15 @@ use tws_tool::{INPUT_READS, ToolFault, run_best, run_show, run_without};
 fn best_of<R: io::Read>(rt: &HostRuntime, files: &mut [R]) -> (Result<(), ToolFault>, usize) {
     let mut out = Vec::new(rt.alloc());
     let mut errors: Vec<u8> = Vec::new(rt.alloc());
-    let done = run_best(rt.alloc(), Ruleset::Lynx, &[], files, &mut out, &mut errors);
+    let done = run_best(
+        rt.alloc(),
+        Ruleset::Lynx,
+        &[],
+        0,
+        files,
+        &mut out,
+        &mut errors,
+    );
     (done, out.len())
 }
 
@@ -115,7 +123,7 @@ fn an_input_that_ends_at_the_last_read(rt: HostRuntime) {
 
 // Returns bytes, or fails.
 #[derive(Drop)]
-enum Input<'a> {
+pub(crate) enum Input<'a> {
     Whole(&'a [u8]),
     Failing,
 }

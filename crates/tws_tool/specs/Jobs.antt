@@ -35,7 +35,7 @@ AsksFor command (job.Sync arguments) = (command.0 ≡ sync_name) × AsksToSync c
 -- the output before and after. Only `get` and a job with `--output` change a file, and only `put`, `get` and
 -- `sync` use a wire.
 abbrev pub JobRuns : (to_terminal : Bool) → (known : Known) (now : List ℕ → Option (List ℕ)) → (Unread Unwritten : Type 0) → (first : Option (List Entry)) → Result Job JobFault → (status : ℕ) → (had left old new : Option (List ℕ)) → Type 0
-JobRuns to_terminal known now Unread Unwritten first (Ok (job.Files files)) status had left old new = FileJobRuns to_terminal known.bytes_of known.drafted_of now Unread Unwritten files status had left old new
+JobRuns to_terminal known now Unread Unwritten first (Ok (job.Files files)) status had left old new = FileJobRuns to_terminal known.below_of known.bytes_of known.drafted_of now Unread Unwritten files status had left old new
 JobRuns to_terminal known now Unread Unwritten first (Ok (job.Serve arguments)) status had left old new = (now ≡ known.bytes_of) × Unread × ServeRan arguments status old new
 JobRuns to_terminal known now Unread Unwritten first (Ok (job.Put arguments)) status had left old new = (now ≡ known.bytes_of) × ((after : Option (List Entry)) × PutRan known.bytes_of known.host_of Unread arguments status first after had left old new)
 JobRuns to_terminal known now Unread Unwritten first (Ok (job.Get arguments)) status had left old new = Unread × ((after : Option (List Entry)) × GetRan known arguments status first after now old new)
@@ -45,7 +45,7 @@ JobRuns to_terminal known now Unread Unwritten first (Err why) status had left o
 -- What a job said on standard error at status 0, given what is known of files and of standard input, and what holds if it said
 -- nothing: what standard error had before, and has. The lines of a log, or about a terminal, go elsewhere.
 abbrev pub JobSaid : (known : Known) → (given : Option (List ℕ)) → (Silent : Type 0) → Result Job JobFault → (old new : Option (List ℕ)) → Type 0
-JobSaid known given Silent (Ok (job.Files files)) old new = FileJobSaid known.bytes_of given Silent files old new
+JobSaid known given Silent (Ok (job.Files files)) old new = FileJobSaid known.below_of known.bytes_of given Silent files old new
 JobSaid known given Silent (Ok (job.Serve arguments)) old new = Silent
 JobSaid known given Silent (Ok (job.Put arguments)) old new = PutSaid known.bytes_of arguments.sources.items given Silent old new
 JobSaid known given Silent (Ok (job.Get arguments)) old new = Silent

@@ -39,11 +39,11 @@ fn run_answer<
     out: &mut W,
     errors: &mut E,
 ) -> u8
-    ensures ran { JobRuns to_terminal (record { bytes_of = S.bytes_of system.old; drafted_of = S.drafted_of system.old; host_of = S.host_of system.old }) (S.bytes_of system.new) (input.new ≡ input.old) (out.new ≡ out.old) (N.first_calls network.old) job.now result (R.remaining input.old) (R.remaining input.new) (W.contents out.old) (W.contents out.new) }
+    ensures ran { JobRuns to_terminal (record { bytes_of = S.bytes_of system.old; drafted_of = S.drafted_of system.old; below_of = S.below_of system.old; host_of = S.host_of system.old }) (S.bytes_of system.new) (input.new ≡ input.old) (out.new ≡ out.old) (N.first_calls network.old) job.now result (R.remaining input.old) (R.remaining input.new) (W.contents out.old) (W.contents out.new) }
     ensures usage { result ≡ 1 → (input.new ≡ input.old) × (out.new ≡ out.old) }
     ensures status { result ≤ 4 }
     ensures unreadable { result ≡ 3 → out.new ≡ out.old }
-    ensures said { result ≡ 0 → JobSaid (record { bytes_of = S.bytes_of system.old; drafted_of = S.drafted_of system.old; host_of = S.host_of system.old }) (R.remaining input.old) (errors.new ≡ errors.old) job.now (E.contents errors.old) (E.contents errors.new) }
+    ensures said { result ≡ 0 → JobSaid (record { bytes_of = S.bytes_of system.old; drafted_of = S.drafted_of system.old; below_of = S.below_of system.old; host_of = S.host_of system.old }) (R.remaining input.old) (errors.new ≡ errors.old) job.now (E.contents errors.old) (E.contents errors.new) }
 {
     match job {
         Ok(job) => run_job(
@@ -88,7 +88,7 @@ pub fn run_words_with<
     errors: &mut E,
 ) -> u8
     // The job is the one that the arguments ask for, with the files that they name.
-    ensures ran { (job : Result Job JobFault) × AnswersWords (map string_bytes words.now) job × JobRuns to_terminal (record { bytes_of = S.bytes_of system.old; drafted_of = S.drafted_of system.old; host_of = S.host_of system.old }) (S.bytes_of system.new) (input.new ≡ input.old) (out.new ≡ out.old) (N.first_calls network.old) job result (R.remaining input.old) (R.remaining input.new) (W.contents out.old) (W.contents out.new) × (result ≡ 0 → JobSaid (record { bytes_of = S.bytes_of system.old; drafted_of = S.drafted_of system.old; host_of = S.host_of system.old }) (R.remaining input.old) (errors.new ≡ errors.old) job (E.contents errors.old) (E.contents errors.new)) }
+    ensures ran { (job : Result Job JobFault) × AnswersWords (map string_bytes words.now) job × JobRuns to_terminal (record { bytes_of = S.bytes_of system.old; drafted_of = S.drafted_of system.old; below_of = S.below_of system.old; host_of = S.host_of system.old }) (S.bytes_of system.new) (input.new ≡ input.old) (out.new ≡ out.old) (N.first_calls network.old) job result (R.remaining input.old) (R.remaining input.new) (W.contents out.old) (W.contents out.new) × (result ≡ 0 → JobSaid (record { bytes_of = S.bytes_of system.old; drafted_of = S.drafted_of system.old; below_of = S.below_of system.old; host_of = S.host_of system.old }) (R.remaining input.old) (errors.new ≡ errors.old) job (E.contents errors.old) (E.contents errors.new)) }
     // A usage error leaves input and output untouched, and an unreadable file the output.
     ensures usage { result ≡ 1 → (input.new ≡ input.old) × (out.new ≡ out.old) }
     ensures status { result ≤ 4 }
@@ -125,7 +125,7 @@ pub fn run_words<
     out: &mut W,
     errors: &mut E,
 ) -> u8
-    ensures ran { (job : Result Job JobFault) × AnswersWords (map string_bytes words.now) job × JobRuns to_terminal (record { bytes_of = λ name. None; drafted_of = λ name. None; host_of = λ name. None }) (λ name. None) (input.new ≡ input.old) (out.new ≡ out.old) None job result (R.remaining input.old) (R.remaining input.new) (W.contents out.old) (W.contents out.new) × (result ≡ 0 → JobSaid (record { bytes_of = λ name. None; drafted_of = λ name. None; host_of = λ name. None }) (R.remaining input.old) (errors.new ≡ errors.old) job (E.contents errors.old) (E.contents errors.new)) }
+    ensures ran { (job : Result Job JobFault) × AnswersWords (map string_bytes words.now) job × JobRuns to_terminal (record { bytes_of = λ name. None; drafted_of = λ name. None; below_of = λ name. None; host_of = λ name. None }) (λ name. None) (input.new ≡ input.old) (out.new ≡ out.old) None job result (R.remaining input.old) (R.remaining input.new) (W.contents out.old) (W.contents out.new) × (result ≡ 0 → JobSaid (record { bytes_of = λ name. None; drafted_of = λ name. None; below_of = λ name. None; host_of = λ name. None }) (R.remaining input.old) (errors.new ≡ errors.old) job (E.contents errors.old) (E.contents errors.new)) }
     ensures usage { result ≡ 1 → (input.new ≡ input.old) × (out.new ≡ out.old) }
     ensures status { result ≤ 4 }
     ensures unreadable { result ≡ 3 → out.new ≡ out.old }

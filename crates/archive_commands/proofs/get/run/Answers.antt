@@ -23,7 +23,7 @@ returns-in-Ok-clause-ran g c =
     let text : c.as_str.result.now ≡ string_bytes arguments.target.address = search rules in
     let name : c.as_str-2.result.now ≡ string_bytes arguments.file = search rules in
     let here = subst (λ (t : List ℕ). Locates host_of t (Some host)) text (subst (λ (f : Option ℕ). Locates host_of c.as_str.result.now f) c.in-Some.is c.locate.ensures) in
-    get_ran old new (record { bytes_of = files; drafted_of = drafted_of; host_of = host_of }) now arguments host before after (Ok tt) here
+    get_ran old new (record { bytes_of = files; drafted_of = drafted_of; below_of = g.S.FileSystem.below_of c.args.system.now; host_of = host_of }) now arguments host before after (Ok tt) here
     (subst (λ (n : List ℕ). Gets (record { host = host; port = arguments.target.port }) arguments.ruleset n before after (drafted_of n) files now old new) name c.in-Ok.ensures.got)
     tt
 
@@ -42,7 +42,7 @@ returns-in-Err-clause-ran g c =
     let text : c.as_str.result.now ≡ string_bytes arguments.target.address = search rules in
     let name : c.as_str-2.result.now ≡ string_bytes arguments.file = search rules in
     let here = subst (λ (t : List ℕ). Locates host_of t (Some host)) text (subst (λ (f : Option ℕ). Locates host_of c.as_str.result.now f) c.in-Some.is c.locate.ensures) in
-    let known : Known = record { bytes_of = files; drafted_of = drafted_of; host_of = host_of } in
+    let known : Known = record { bytes_of = files; drafted_of = drafted_of; below_of = g.S.FileSystem.below_of c.args.system.now; host_of = host_of } in
     subst (λ (n : ℕ). GetRan known arguments n before after now old new) (sym c.report_get.ensures.status)
     (get_ran old new known now arguments host before after (Err c.in-Err.fault.fault) here tt
     (subst (λ (n : List ℕ). GetFails (record { host = host; port = arguments.target.port }) arguments.ruleset n before after (drafted_of n) files now old new c.in-Err.fault.fault) name c.in-Err.ensures.fails))

@@ -3,7 +3,7 @@ use Rattle.std.proofs.lemmas.Result.{err_from_is_err_and}
 use Rattle.tws_file.specs.Text.{IsText}
 use Rattle.command_line.specs.Faults.{ReadFails}
 use Rattle.show_commands.proofs.Collecting.{input_fails, known_more, one_more_ended, others_stay, read_out, set_count}
-use Rattle.file_commands.proofs.Noting.{all_noted, known_count, noted_more, noted_none}
+use Rattle.file_commands.proofs.Noting.{all_noted, known_count, noted_more, noted_none, rules_few, sets_few}
 use Rattle.file_commands.proofs.Collecting.{all_collected, collects_more, collects_none}
 use Rattle.file_commands.proofs.best.collect.Goals as goal
 
@@ -12,7 +12,9 @@ loop-index-init g c = record {
   count = refl;
   others = refl;
   ended = tt;
-  noted = noted_none c.args.ruleset c.args.sources.now c.args.notes.now;
+  rules_few = omega (arith, c.requires.rules);
+  sets_few = omega (arith, c.requires.sets);
+  noted = noted_none c.args.ruleset c.args.sources.now c.args.named c.args.notes.now;
   so_far = collects_none c.args.ruleset c.new-collection.result c.new-collection.ensures.rules c.new-collection.ensures.empty;
 }
 
@@ -42,12 +44,14 @@ loop-index-preserved g c =
     let merged = c.merge.new.self in
     let more = collects_more c.args.ruleset knowns
     (reported c.index-files-index.result) c.in_ok-file.file before.collection merged before.invariant.so_far text c.merge.ensures.rules c.in_ok-merge.ensures.best in
-    let noted = noted_more c.args.ruleset c.args.sources.now c.args.notes.now before.notes c.take.new.self knowns (reported c.index-files-index.result) c.in_ok-file.file c.name_at.result.now before.index
-    (known_count reported c.args.files.now before.index inside) c.name_at.ensures before.invariant.noted text c.in_ok-take.ensures in
+    let noted = noted_more c.args.ruleset c.args.sources.now c.args.named c.args.notes.now before.notes c.add.new.self knowns (reported c.index-files-index.result) c.in_ok-file.file before.index
+    (known_count reported c.args.files.now before.index inside) before.invariant.noted text c.in_ok-add.ensures in
     record {
       count = set_count before.files c.args.files.now before.index c.read_input.new.input before.invariant.count;
       others = others_stay before.files c.args.files.now before.index c.read_input.new.input before.invariant.others;
       ended = one_more_ended reported before.files before.index c.read_input.new.input (omega (arith, inside, before.invariant.count)) before.invariant.ended c.in_ok-file.ensures.file.ended;
+      rules_few = rules_few _ c.args.ruleset before.notes c.add.new.self _ c.in_ok-file.file before.index c.in_ok-add.ensures before.invariant.rules_few;
+      sets_few = sets_few _ c.args.ruleset before.notes c.add.new.self _ c.in_ok-file.file before.index c.in_ok-add.ensures before.invariant.sets_few;
       noted = rw (known_more reported before.files c.args.files.now before.index c.index-files-index.result before.invariant.others inside c.index-files-index.is) noted;
       so_far = rw (known_more reported before.files c.args.files.now before.index c.index-files-index.result before.invariant.others inside c.index-files-index.is) more;
     }
@@ -60,4 +64,4 @@ returns-clause-collected g c =
 pub returns-clause-noted : goal.returns-clause-noted
 returns-clause-noted g c =
     let before = c.loop-index in
-    all_noted c.args.ruleset c.args.sources.now c.args.notes.now (λ file. g.R.Read.remaining file) c.args.files.now before.index before.notes (omega (arith, before.invariant.count)) before.invariant.noted
+    all_noted c.args.ruleset c.args.sources.now c.args.named c.args.notes.now (λ file. g.R.Read.remaining file) c.args.files.now before.index before.notes (omega (arith, before.invariant.count)) before.invariant.noted

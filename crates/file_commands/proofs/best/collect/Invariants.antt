@@ -1,4 +1,4 @@
-use Rattle.std.proofs.Common.{◌≡◌, length, take, drop, map}
+use Rattle.std.proofs.Common.{◌≡◌, ◌≤◌, length, take, drop, map}
 use Rattle.std.specs.List.{AllByRecursion}
 use Rattle.std.specs.Io.KnownBytes.{IsAtEnd}
 use Rattle.file_commands.specs.Best.{Collects}
@@ -11,6 +11,8 @@ invariant-loop-index g l = record {
   count : length l.files ≡ length l.fn.files;
   others : drop l.index l.files ≡ drop l.index l.fn.files;
   ended : AllByRecursion (λ file. IsAtEnd (g.R.Read.remaining file)) (take l.index l.files);
-  noted : AreNoted l.fn.ruleset l.fn.sources l.fn.notes l.notes (map (λ file. g.R.Read.remaining file) (take l.index l.fn.files));
+  rules_few : l.notes.rules_count ≤ l.index;
+  sets_few : l.notes.sets_count ≤ l.index;
+  noted : AreNoted l.fn.ruleset l.fn.sources l.fn.named l.fn.notes l.notes (map (λ file. g.R.Read.remaining file) (take l.index l.fn.files));
   so_far : Collects l.fn.ruleset (map (λ file. g.R.Read.remaining file) (take l.index l.fn.files)) l.collection;
 }

@@ -12,7 +12,7 @@ returns-clause-app c =
     let one = with_rule none (ruleset_rule c.args.names) in
     let two = with_rule one files_rule in
     let first = adds_rule _ _ _ none (ruleset_rule c.args.names) c.new_command.ensures.app c.ruleset_argument.ensures.rule c.ruleset_argument.ensures.local c.in_ok-arg.ensures in
-    let second = adds_rule _ _ _ one files_rule first c.files_argument.ensures.rule c.files_argument.ensures.local c.in_ok-arg-2.ensures in
+    let second = adds_rule _ _ _ one files_rule first c.inputs_argument.ensures.rule c.inputs_argument.ensures.local c.in_ok-arg-2.ensures in
     IfOk-weaker c.arg-3.result _ _
     (λ command adds. adds_rule _ _ command two output_rule second c.output_argument.ensures.rule c.output_argument.ensures.local adds)
     c.arg-3.ensures
@@ -20,5 +20,5 @@ returns-clause-app c =
 pub returns-clause-local : goal.returns-clause-local
 returns-clause-local c =
     let first = stays_local _ _ _ c.new_command.ensures.local c.ruleset_argument.ensures.local c.in_ok-arg.ensures in
-    let second = stays_local _ _ _ first c.files_argument.ensures.local c.in_ok-arg-2.ensures in
+    let second = stays_local _ _ _ first c.inputs_argument.ensures.local c.in_ok-arg-2.ensures in
     IfOk-weaker c.arg-3.result _ _ (λ command adds. stays_local _ _ command second c.output_argument.ensures.local adds) c.arg-3.ensures

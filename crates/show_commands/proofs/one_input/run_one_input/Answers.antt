@@ -18,7 +18,7 @@ returns-in-Ok-clause-ran g c =
     let wrote = c.run_over-done-in-Ok.ensures in
     let name : c.as_str.result.now ≡ file = search rules in
     let ran = ran_named text bytes_of file c.as_str.result.now c.run_over-done-in-Ok.result (g.S.File.Read.remaining c.in-Ok.file)
-    (g.S.File.Read.remaining c.run_over-done-in-Ok.new.input) old new c.in-Ok.ensures name wrote.end wrote.unreadable wrote.written wrote.fails in
+    (g.S.File.Read.remaining c.run_over-done-in-Ok.new.input) old new c.in-Ok.ensures.opened name wrote.end wrote.unreadable wrote.written wrote.fails in
     subst (λ (s : Source). RanFrom s bytes_of (c.args.input.now ≡ c.args.input.now) text c.finish-in-Ok.result given given old new) (sym c.in-Named.is)
     (refl, subst (λ (n : ℕ). FileRan text n (bytes_of file) old new) (sym c.finish-in-Ok.ensures.status) ran)
 
@@ -32,7 +32,8 @@ returns-in-Ok-clause-said g c =
     let before = c.args.errors.now in
     let left = c.run_over-done-in-Ok.new.errors in
     let name : c.as_str.result.now ≡ string_bytes c.in-Named.name = search rules in
-    let same : g.S.File.Read.remaining c.in-Ok.file ≡ known = c.in-Ok.ensures ∙ ap bytes_of name ∙ ap (known_of bytes_of given) (sym c.in-Named.is) in
+    let same : g.S.File.Read.remaining c.in-Ok.file ≡ known = c.in-Ok.ensures.opened ∙ ap bytes_of name ∙ ap (known_of bytes_of given) (sym c.in-Named.is) in
     still (λ (e : g.row.E.Denot). SaysOf says (e ≡ before) known (g.E.Write.contents before) (g.E.Write.contents e)) left c.finish-in-Ok.new.errors done c.finish-in-Ok.result c.finish-in-Ok.ensures.status
-    (subst (λ (k : Option (List ℕ)). OnOk done (SaysOf says (left ≡ before) k (g.E.Write.contents before) (g.E.Write.contents left))) same c.run_over-done-in-Ok.ensures.said)
+    (subst (λ (e : g.row.E.Denot). OnOk done (SaysOf says (left ≡ e) known (g.E.Write.contents e) (g.E.Write.contents left))) c.in-Ok.ensures.silent
+    (subst (λ (k : Option (List ℕ)). OnOk done (SaysOf says (left ≡ c.open_named.new.errors) k (g.E.Write.contents c.open_named.new.errors) (g.E.Write.contents left))) same c.run_over-done-in-Ok.ensures.said))
     c.finish-in-Ok.ensures.silent
