@@ -7,3 +7,4 @@ pub mod Show
 pub mod Knowing
 pub mod Pack
 pub mod ShowJobs
+pub mod Reporting

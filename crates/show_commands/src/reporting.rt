@@ -1,7 +1,10 @@
 //! Reports of why a command of several inputs failed, and its exit status.
 
-ghost use Rattle.std.specs.Prelude.{◌≡◌};
+ghost use Rattle.std.specs.Prelude.{◌≡◌, ◌≢◌, IfErr, map, slice_get, string_bytes};
+ghost use Rattle.command_line.specs.declared.tool_fault.ToolFault.TheVariants.{Read};
 ghost use Rattle.command_line.specs.Faults.{status_of, answer_status};
+ghost use Rattle.command_line.specs.Printing.{Printed};
+ghost use Rattle.show_commands.specs.Reporting.{among_lines, names_of};
 
 use crate::input_file::InputFile;
 use command_line::{DONE, Source, ToolFault, report, report_file};
@@ -11,7 +14,9 @@ use std::{io, slice};
 use system_files::FileSystem;
 
 // The names of the input with this index, as `report` takes them: standard input has none.
-fn names_at(sources: &[Source], index: usize) -> &[String] {
+fn names_at(sources: &[Source], index: usize) -> &[String]
+    ensures { map string_bytes result.now ≡ names_of (slice_get sources.now index) }
+{
     match sources.get(index) {
         Some(Source::Named(name)) => slice::from_ref(name),
         _ => &[],
@@ -20,7 +25,8 @@ fn names_at(sources: &[Source], index: usize) -> &[String] {
 
 // Reports why a command of several inputs failed, as `report` does, and returns the status.
 fn report_among<E: Write>(fault: ToolFault, sources: &[Source], errors: &mut E) -> u8
-    ensures { result ≡ status_of fault }
+    ensures status { result ≡ status_of fault }
+    ensures printed { Printed (among_lines fault sources.now) (E.contents errors.old) (E.contents errors.new) }
 {
     match fault {
         ToolFault::Unreadable { index, fault } => {
@@ -67,6 +73,7 @@ pub(crate) fn finish_among<S: FileSystem, E: Write>(
 ) -> u8
     ensures status { result ≡ answer_status done }
     ensures silent { result ≡ 0 → errors.new ≡ errors.old }
+    ensures printed { IfErr done (λ fault. fault ≢ Read → Printed (among_lines fault sources.now) (E.contents errors.old) (E.contents errors.new)) }
 {
     match done {
         Ok(()) => DONE,
