@@ -1,5 +1,6 @@
 -- What was printed of a fault.
-use Rattle.std.proofs.Common.{◌≡◌, ◌≢◌, ◌⊎◌, ◌==◌, inl, inr, ap, ℕ, Bor, option_map, unwrap_or, Bool, true, false, List, [], ◌∷◌, length, Option, Some, None, refl, sym, subst}
+use Rattle.std.proofs.Common.{◌≡◌, ◌≢◌, ◌⊎◌, ◌==◌, inl, inr, ap, ℕ, Bor, option_map, unwrap_or, Bool, true, false, List, [], ◌∷◌, length, Option, Some, None, refl, sym, subst, ◌<◌, ◌+◌, ◌++◌, ◌∙◌, take, get_or}
+use Rattle.std.proofs.lemmas.List.{take_more}
 use Rattle.byte_output.specs.Printable.{shown}
 use Rattle.tws_file.specs.declared.file_fault.FileFault.{FileFault}
 use Rattle.command_line.specs.declared.source.Source.{Source}
@@ -7,7 +8,7 @@ use Rattle.command_line.specs.declared.tool_fault.ToolFault.{ToolFault}
 use Rattle.command_line.specs.declared.tool_fault.ToolFault.TheVariants.{Read, Write, Unreadable, Memory, Socket, Transfer}
 use Rattle.command_line.specs.Printing.{Printed, Prints, ReportsFile, fault_text, line_about}
 use Rattle.archive_commands.specs.declared.reached.Reached.{Reached}
-use Rattle.archive_commands.specs.Reports.{ReportsGet, ReportsReceived, file_fault_lines, name_of, no_answer_line, reached_line, reached_lines, refusal_lines, server_says}
+use Rattle.archive_commands.specs.Reports.{ReportsEach, ReportsGet, ReportsOne, ReportsReceived, file_fault_lines, name_of, no_answer_line, reached_line, reached_lines, refusal_lines, server_says}
 
 module _ (old new : Option (List ℕ)) where
   -- a text of the server that is not empty
@@ -43,3 +44,18 @@ get_reported None fault file address refusal reached old new reports = inr repor
 pub name_given : (folder : Option (Bor (List ℕ))) (other name : Bor (List ℕ)) → name ≡ unwrap_or folder other → name.now ≡ unwrap_or (option_map (λ (n : Bor (List ℕ)). n.now) folder) other.now
 name_given None other name is = ap (λ (n : Bor (List ℕ)). n.now) is
 name_given (Some folder) other name is = ap (λ (n : Bor (List ℕ)). n.now) is
+
+-- ---- of files that were sent one after the other
+
+each_snoc : (several : Bool) (address : List ℕ) (sources : List Source) (source : Source) (old mid new : Option (List ℕ)) → ReportsEach several address sources old mid
+    → (status : ℕ) × (refusal : List ℕ) × (reached : Option Reached) × ReportsOne several source address status refusal reached mid new → ReportsEach several address (sources ++ source ∷ []) old new
+each_snoc several address [] source old mid new each one =
+    (new, subst (λ (o : Option (List ℕ)). (status : ℕ) × (refusal : List ℕ) × (reached : Option Reached) × ReportsOne several source address status refusal reached o new) each one, refl)
+each_snoc several address (s ∷ sources) source old mid new each one = (each.0, each.1, each_snoc several address sources source each.0 mid new each.2 one)
+
+-- one more
+pub each_more : (several : Bool) (address : List ℕ) (sources : List Source) (i : ℕ) (source : Source) (old mid new : Option (List ℕ)) (status : ℕ) (refusal : List ℕ) (reached : Option Reached) → i < length sources → source ≡ get_or sources i source
+    → ReportsEach several address (take i sources) old mid → ReportsOne several source address status refusal reached mid new → ReportsEach several address (take (i + 1) sources) old new
+each_more several address sources i source old mid new status refusal reached inside is each one =
+    subst (λ (ss : List Source). ReportsEach several address ss old new) (sym (take_more sources i source inside ∙ ap (λ (x : Source). take i sources ++ x ∷ []) (sym is)))
+    (each_snoc several address (take i sources) source old mid new each (status, refusal, reached, one))
