@@ -1,8 +1,9 @@
 -- What the commands of the archive print on standard error of a fault.
-use Rattle.std.specs.Prelude.{◌≡◌, ◌⊎◌, ℕ, Bool, true, false, List, [], ◌∷◌, ◌++◌, Option, Some, None, Result, Ok, Err, string_bytes, codes, decimal}
+use Rattle.std.specs.Prelude.{◌≡◌, ◌⊎◌, ℕ, Bool, true, false, List, [], ◌∷◌, ◌++◌, take, Option, Some, None, Result, Ok, Err, string_bytes, codes, decimal}
 use Rattle.std.specs.Int.{to_be_bytes, w32}
 use Rattle.std.specs.Net.Text.{ipv4_text}
 use Rattle.clap.specs.Words.{Text}
+use Rattle.byte_output.specs.Output.{AppendsPrefix}
 use Rattle.byte_output.specs.Printable.{shown}
 use Rattle.tws_file.specs.declared.file_fault.FileFault.TheVariants as file
 use Rattle.tws_file.specs.declared.«ruleset».Ruleset.{Ruleset}
@@ -17,12 +18,14 @@ use Rattle.archive_sync.specs.declared.news_fault.NewsFault.TheVariants as news
 use Rattle.archive_sync.specs.declared.sync_fault.SyncFault.{SyncFault}
 use Rattle.archive_sync.specs.declared.sync_fault.SyncFault.TheVariants.{From, To, News}
 use Rattle.command_line.specs.Faults.{answer_status, input_fault, status_of}
+use Rattle.command_line.specs.Saying.{Says}
 use Rattle.command_line.specs.Printing.{Printed, Prints, PrintsCause, Reports, ReportsFile, fault_text, line_about, plain_line, report_lines}
 use Rattle.archive_keepers.specs.declared.replaced.Replaced.{Replaced}
 use Rattle.archive_keepers.specs.Replaced.{replaced_text}
 use Rattle.archive_commands.specs.declared.reached.Reached.{Reached}
 use Rattle.archive_commands.specs.Address.{address_hint}
 use Rattle.archive_commands.specs.Faults.{run_fault}
+use Rattle.archive_commands.specs.Labels.{are_several}
 use Rattle.archive_commands.specs.Syncing.{sync_status}
 
 -- ---- an address that cannot be used
@@ -167,6 +170,26 @@ ReportsEach several address (source ∷ sources) old new =
 abbrev pub ReportsUnread : (several : Bool) → Source → (status : ℕ) → (old new : Option (List ℕ)) → Type 0
 ReportsUnread several source status old new =
     ((fault : ToolFault) × (status ≡ status_of fault) × Printed (file_fault_lines several source fault) old new) ⊎ ((status ≡ 2) × ReportsFile Read (name_of source) old new)
+
+-- the first of these files that was not read
+pub record ReportsFirst (sources : List Source) (status : ℕ) (old new : Option (List ℕ)) : Type 0 where
+  pub front : List Source
+  pub source : Source
+  pub rest : List Source
+  pub split : sources ≡ front ++ source ∷ rest
+  pub reports : ReportsUnread (are_several sources) source status old new
+
+-- This was said, and then each file reported, unless a text was missing; or it could not be said.
+abbrev pub SaysThen : (note : List ℕ) → List Source → (address : Text) → (old new : Option (List ℕ)) → Type 0
+SaysThen note sources address old new =
+    ((mid : Option (List ℕ)) × Says note (mid ≡ old) old mid × ((count : ℕ) × ReportsEach (are_several sources) address (take count sources) mid new))
+    ⊎ ((mid : Option (List ℕ)) × AppendsPrefix old mid note × Printed (report_lines Write []) mid new)
+
+-- What `put` printed, for these files, this address and this status: that it leads to no host; why a file was not read; or what there
+-- was to say of the files, and what was reported of each.
+abbrev pub PutReports : List Source → (address : Text) → (status : ℕ) → (old new : Option (List ℕ)) → Type 0
+PutReports sources address status old new =
+    ((status ≡ 1) × ((reason : Text) × Printed (bad_address_lines address reason) old new)) ⊎ ReportsFirst sources status old new ⊎ ((note : List ℕ) × SaysThen note sources address old new)
 
 -- ---- a server that ended
 

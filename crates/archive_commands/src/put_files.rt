@@ -10,7 +10,7 @@ ghost use Rattle.archive_commands.specs.Labels.{are_several, label_of};
 ghost use Rattle.archive_commands.specs.Lines.{LineFails, Unless, sent_line};
 ghost use Rattle.archive_commands.specs.PutFiles.{AreRead, FailsToRead, HasRead, IsFailedStatus, IsUnread, NotesStopping, PutsFiles, PutsText, PutsWhole, SendsEach, SendsOne, SendsSaid, status_among};
 ghost use Rattle.archive_commands.specs.PutSaid.{PutSaid};
-ghost use Rattle.archive_commands.specs.Reports.{ReportsEach, ReportsOne, ReportsSent, ReportsUnread};
+ghost use Rattle.archive_commands.specs.Reports.{PutReports, ReportsEach, ReportsFirst, ReportsOne, ReportsSent, ReportsUnread, SaysThen};
 ghost use Rattle.archive_commands.specs.Stopping.{IsFirstStopping, stopping_line};
 
 use crate::labels::{are_several, finish_sent, push_label, report_file_fault};
@@ -99,6 +99,7 @@ fn read_all<S: FileSystem, R: Read, E: Write>(
     ensures kept { has_standard sources.now ≡ false → input.new ≡ input.old }
     ensures failed { IfErr result IsFailedStatus }
     ensures silent { OnOk result (errors.new ≡ errors.old) }
+    ensures printed { IfErr result (λ status. ReportsFirst sources.now status (E.contents errors.old) (E.contents errors.new)) }
 {
     let several = are_several(sources);
     let mut texts = Vec::new(alloc);
@@ -276,6 +277,7 @@ fn say_and_send<N: TransferWire, W: Write, E: Write>(
     ensures unreadable { are_several sources.now ≡ true → result ≢ 3 }
     ensures unwritten { are_several sources.now ≡ false → result ≢ 0 → result ≢ 2 → out.new ≡ out.old }
     ensures said { result ≡ 0 → Says note.now (errors.new ≡ errors.old) (E.contents errors.old) (E.contents errors.new) }
+    ensures printed { SaysThen note.now sources.now (string_bytes arguments.now.target.address) (E.contents errors.old) (E.contents errors.new) }
 {
     match say(note, errors) {
         Ok(()) => send_each(wire, alloc, arguments, to, sources, texts, out, errors),
@@ -302,6 +304,7 @@ pub(crate) fn put_files<S: FileSystem, N: TransferWire, R: Read, W: Write, E: Wr
     ensures unreadable { are_several arguments.now.sources.items ≡ true → result ≡ 3 → out.new ≡ out.old }
     ensures unwritten { are_several arguments.now.sources.items ≡ false → result ≢ 0 → result ≢ 2 → out.new ≡ out.old }
     ensures said { result ≡ 0 → PutSaid (S.bytes_of system.now) arguments.now.sources.items (R.remaining input.old) (errors.new ≡ errors.old) (E.contents errors.old) (E.contents errors.new) }
+    ensures printed { PutReports arguments.now.sources.items (string_bytes arguments.now.target.address) result (E.contents errors.old) (E.contents errors.new) }
 {
     let sources = arguments.sources.as_slice();
     let mut note = String::new(alloc);
