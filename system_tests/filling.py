@@ -50,7 +50,7 @@ def outgrows(name, fitting, more, *words):
 
 def no_collection_outgrows_what_can_be_served():
     """Two files of distinct solutions that together have more bytes than the limit, or than can be served at all."""
-    few = [[record(level, bytes([letter]) * 4) for level in range(1, 6)] for letter in b"AB"]
+    few = [[record(level, bytes([letter]) * 4, moves=b"\0") for level in range(1, 6)] for letter in b"AB"]
     outgrows("a limit of 150 bytes", few[0], few[1], "--limit", 150)
     many = [[record(level, bytes([letter]) * 4, moves=b"\0" * 99_980) for level in range(1, 171)] for letter in b"AB"]
     outgrows("the 33,553,919 bytes that can be served", many[0], many[1])
@@ -126,7 +126,7 @@ def a_history_has_a_limit():
             seconds, before, size = seconds + 1, size, on_the_disk(folder)
         print(f"files without a pause, and a history of at most 1 MB: {size / 1e6:.1f} MB, and no more after {seconds - 1} s")
         check("a history with a limit", size >= 1_000_000 and seconds < 30)
-        refused = server.put(file("better.tws", record(1, ticks=1)))[:2]
+        refused = server.put(file("better.tws", record(1, ticks=1, moves=b"\0")))[:2]
         check("a better file without room in the history", refused == NOT_KEPT)
         check("what is served then", server.get()[0] == 0 and loaded(os.path.join(FOLDER, "got")) == loaded(good))
     shutil.rmtree(folder)

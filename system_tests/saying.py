@@ -21,7 +21,7 @@ def error(text):
 
 
 def put_words():
-    return "put", "127.0.0.1", file("said.tws", record(1))
+    return "put", "127.0.0.1", file("said.tws", record(1, moves=b"\0"))
 
 
 def what_a_server_says():

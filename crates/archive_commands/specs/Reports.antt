@@ -1,8 +1,9 @@
 -- What the commands of the archive print on standard error of a fault.
-use Rattle.std.specs.Prelude.{◌≡◌, ◌⊎◌, ℕ, Bool, true, false, List, [], ◌∷◌, ◌++◌, Option, Some, None, Result, Ok, Err, string_bytes, codes, decimal}
+use Rattle.std.specs.Prelude.{◌≡◌, ◌⊎◌, ℕ, Bool, true, false, List, [], ◌∷◌, ◌++◌, take, Option, Some, None, Result, Ok, Err, string_bytes, codes, decimal}
 use Rattle.std.specs.Int.{to_be_bytes, w32}
 use Rattle.std.specs.Net.Text.{ipv4_text}
 use Rattle.clap.specs.Words.{Text}
+use Rattle.byte_output.specs.Output.{AppendsPrefix}
 use Rattle.byte_output.specs.Printable.{shown}
 use Rattle.tws_file.specs.declared.file_fault.FileFault.TheVariants as file
 use Rattle.tws_file.specs.declared.«ruleset».Ruleset.{Ruleset}
@@ -12,12 +13,20 @@ use Rattle.command_line.specs.declared.source.Source.{Source}
 use Rattle.command_line.specs.declared.source.Source.TheVariants.{Standard, Named}
 use Rattle.command_line.specs.declared.tool_fault.ToolFault.{ToolFault}
 use Rattle.command_line.specs.declared.tool_fault.ToolFault.TheVariants.{Read, Write, Unreadable, Memory, Socket, Transfer}
-use Rattle.command_line.specs.Faults.{status_of}
+use Rattle.archive_sync.specs.declared.news_fault.NewsFault.{NewsFault}
+use Rattle.archive_sync.specs.declared.news_fault.NewsFault.TheVariants as news
+use Rattle.archive_sync.specs.declared.sync_fault.SyncFault.{SyncFault}
+use Rattle.archive_sync.specs.declared.sync_fault.SyncFault.TheVariants.{From, To, News}
+use Rattle.command_line.specs.Faults.{answer_status, input_fault, status_of}
+use Rattle.command_line.specs.Saying.{Says}
 use Rattle.command_line.specs.Printing.{Printed, Prints, PrintsCause, Reports, ReportsFile, fault_text, line_about, plain_line, report_lines}
 use Rattle.archive_keepers.specs.declared.replaced.Replaced.{Replaced}
 use Rattle.archive_keepers.specs.Replaced.{replaced_text}
 use Rattle.archive_commands.specs.declared.reached.Reached.{Reached}
 use Rattle.archive_commands.specs.Address.{address_hint}
+use Rattle.archive_commands.specs.Faults.{run_fault}
+use Rattle.archive_commands.specs.Labels.{are_several}
+use Rattle.archive_commands.specs.Syncing.{sync_status}
 
 -- ---- an address that cannot be used
 
@@ -125,6 +134,62 @@ file_fault_lines true source (Transfer why) = line_about (name_of source) (fault
 abbrev pub ReportsSent : (several : Bool) → Source → Result (Unit {0}) ToolFault → (refusal : List ℕ) → (reached : Option Reached) → (old new : Option (List ℕ)) → Type 0
 ReportsSent several source (Ok done) refusal reached old new = new ≡ old
 ReportsSent several source (Err fault) refusal reached old new = ReportsTransfer (file_fault_lines several source fault) fault refusal reached old new
+
+-- why two texts were not compared, of which the first has one of these names, and the second is from the server at this address
+abbrev pub texts_lines : (names : List Text) → (address : Text) → NewsFault → List (List ℕ)
+texts_lines names address (news.First fault) = report_lines (input_fault 0 fault) names
+texts_lines names address (news.Second fault) = report_lines (input_fault 0 fault) (address ∷ [])
+texts_lines names address news.Rulesets = line_about address (codes "different rulesets") ∷ []
+texts_lines names address news.Memory = report_lines Memory names
+
+-- that a file which is one of several was not
+abbrev pub uncompared_lines : (several : Bool) → Source → List (List ℕ)
+uncompared_lines false source = []
+uncompared_lines true source = line_about (name_of source) (codes "not compared") ∷ []
+
+-- why a file was not compared with the collection at this address
+abbrev pub ReportsUncompared : (several : Bool) → Source → (address : Text) → SyncFault → (refusal : List ℕ) → (reached : Option Reached) → (old new : Option (List ℕ)) → Type 0
+ReportsUncompared several source address (From fault) refusal reached old new = ReportsTransfer (file_fault_lines several source (run_fault fault)) (run_fault fault) refusal reached old new
+ReportsUncompared several source address (To fault) refusal reached old new = ReportsTransfer (file_fault_lines several source (run_fault fault)) (run_fault fault) refusal reached old new
+ReportsUncompared several source address (News why) refusal reached old new =
+    (mid : Option (List ℕ)) × Printed (texts_lines (names_of source) address why) old mid × Printed (uncompared_lines several source) mid new
+
+-- what was reported of a file with this status: how it was sent, or why it was not compared
+abbrev pub ReportsOne : (several : Bool) → Source → (address : Text) → (status : ℕ) → (refusal : List ℕ) → (reached : Option Reached) → (old new : Option (List ℕ)) → Type 0
+ReportsOne several source address status refusal reached old new =
+    ((done : Result (Unit {0}) ToolFault) × (status ≡ answer_status done) × ReportsSent several source done refusal reached old new)
+    ⊎ ((why : SyncFault) × (status ≡ sync_status why) × ReportsUncompared several source address why refusal reached old new)
+
+-- the same of each of these files, in order, by what its wire then had
+abbrev pub ReportsEach : (several : Bool) → (address : Text) → List Source → (old new : Option (List ℕ)) → Type 0
+ReportsEach several address [] old new = new ≡ old
+ReportsEach several address (source ∷ sources) old new =
+    (mid : Option (List ℕ)) × ((status : ℕ) × (refusal : List ℕ) × (reached : Option Reached) × ReportsOne several source address status refusal reached old mid) × ReportsEach several address sources mid new
+
+-- why a file was not read, with this status
+abbrev pub ReportsUnread : (several : Bool) → Source → (status : ℕ) → (old new : Option (List ℕ)) → Type 0
+ReportsUnread several source status old new =
+    ((fault : ToolFault) × (status ≡ status_of fault) × Printed (file_fault_lines several source fault) old new) ⊎ ((status ≡ 2) × ReportsFile Read (name_of source) old new)
+
+-- the first of these files that was not read
+pub record ReportsFirst (sources : List Source) (status : ℕ) (old new : Option (List ℕ)) : Type 0 where
+  pub front : List Source
+  pub source : Source
+  pub rest : List Source
+  pub split : sources ≡ front ++ source ∷ rest
+  pub reports : ReportsUnread (are_several sources) source status old new
+
+-- This was said, and then each file reported, unless a text was missing; or it could not be said.
+abbrev pub SaysThen : (note : List ℕ) → List Source → (address : Text) → (old new : Option (List ℕ)) → Type 0
+SaysThen note sources address old new =
+    ((mid : Option (List ℕ)) × Says note (mid ≡ old) old mid × ((count : ℕ) × ReportsEach (are_several sources) address (take count sources) mid new))
+    ⊎ ((mid : Option (List ℕ)) × AppendsPrefix old mid note × Printed (report_lines Write []) mid new)
+
+-- What `put` printed, for these files, this address and this status: that it leads to no host; why a file was not read; or what there
+-- was to say of the files, and what was reported of each.
+abbrev pub PutReports : List Source → (address : Text) → (status : ℕ) → (old new : Option (List ℕ)) → Type 0
+PutReports sources address status old new =
+    ((status ≡ 1) × ((reason : Text) × Printed (bad_address_lines address reason) old new)) ⊎ ReportsFirst sources status old new ⊎ ((note : List ℕ) × SaysThen note sources address old new)
 
 -- ---- a server that ended
 

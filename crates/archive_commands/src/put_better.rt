@@ -1,6 +1,10 @@
 //! What of a file is better than what an archive has is put there.
 
-ghost use Rattle.std.specs.Prelude.{◌≡◌, ◌≢◌, ◌≤◌, ◌++◌, OnOk, IfOk, IfErr, option_map, string_bytes};
+ghost use Rattle.std.specs.Prelude.{◌≡◌, ◌≢◌, ◌≤◌, ◌++◌, ℕ, List, Option, Result, OnOk, IfOk, IfErr, option_map, string_bytes};
+ghost use Rattle.command_line.specs.declared.tool_fault.ToolFault.{ToolFault as Fault};
+ghost use Rattle.command_line.specs.Faults.{answer_status};
+ghost use Rattle.command_line.specs.Printing.{Printed};
+ghost use Rattle.archive_commands.specs.Reports.{ReportsOne, ReportsSent, ReportsUncompared, names_of, texts_lines, uncompared_lines};
 ghost use Rattle.std.specs.Io.KnownBytes.{Appends};
 ghost use Rattle.archive_sync.specs.Fetching.{FetchesNewsOf, NewsOfFails, PutsPart};
 ghost use Rattle.archive_commands.specs.declared.limits.TheConstants.{ROUNDS};
@@ -18,7 +22,7 @@ use crate::transfer_wire::TransferWire;
 use archive_runs::RunFault;
 use archive_sync::{News, NewsFault, SyncFault, fetch_news_of, put_part};
 use byte_output::put;
-use command_line::{Source, ToolFault};
+use command_line::{Source, ToolFault, print_about};
 use std::alloc::{AllocError, Global};
 use std::io::Write;
 use tftp_packet::Endpoint;
@@ -134,6 +138,7 @@ fn put_planned<N: TransferWire, W: Write, E: Write>(
     ensures few { result ≤ 4 }
     ensures unwritten { result ≢ 0 → result ≢ 2 → out.new ≡ out.old }
     ensures silent { result ≡ 0 → errors.new ≡ errors.old }
+    ensures printed { (done : Result (Unit {0}) Fault) × (result ≡ answer_status done) × ReportsSent several source.now done (N.refusal_of wire.new) (N.reached_of wire.new) (E.contents errors.old) (E.contents errors.new) }
 {
     let done = put_and_say(wire, alloc, to, several, source, news, out);
     finish_sent(done, wire, several, source, errors)
@@ -169,6 +174,15 @@ fn fetch_shown<N: TransferWire>(
     news
 }
 
+// Prints that a file which is one of several was not compared.
+fn print_uncompared<E: Write>(several: bool, source: &Source, errors: &mut E)
+    ensures { Printed (uncompared_lines several source.now) (E.contents errors.old) (E.contents errors.new) }
+{
+    if several {
+        print_about(name_of(source), "not compared", errors);
+    }
+}
+
 // Reports why two texts cannot be compared, of which this file is the first, and returns the status.
 fn report_news_of<E: Write>(
     fault: NewsFault,
@@ -177,12 +191,11 @@ fn report_news_of<E: Write>(
     address: &String,
     errors: &mut E,
 ) -> u8
-    ensures { result ≡ news_status fault }
+    ensures status { result ≡ news_status fault }
+    ensures printed { (mid : Option (List ℕ)) × Printed (texts_lines (names_of source.now) (string_bytes address.now) fault) (E.contents errors.old) mid × Printed (uncompared_lines several source.now) mid (E.contents errors.new) }
 {
     let status = report_texts(fault, names_of(source), address, errors);
-    if several {
-        let _ = writeln!(errors, "tws: {}: not compared", name_of(source));
-    }
+    print_uncompared(several, source, errors);
     status
 }
 
@@ -199,6 +212,7 @@ fn report_uncompared<N: TransferWire, E: Write>(
     ensures done { result ≢ 0 }
     ensures usage { result ≢ 1 }
     ensures few { result ≤ 4 }
+    ensures printed { ReportsUncompared several source.now (string_bytes address.now) fault (N.refusal_of wire.now) (N.reached_of wire.now) (E.contents errors.old) (E.contents errors.new) }
 {
     match fault {
         SyncFault::From(fault) => report_unsent(of_run(fault), wire, several, source, errors),
@@ -225,6 +239,7 @@ pub(crate) fn put_better<N: TransferWire, W: Write, E: Write>(
     ensures few { result ≤ 4 }
     ensures unwritten { result ≢ 0 → result ≢ 2 → out.new ≡ out.old }
     ensures silent { result ≡ 0 → errors.new ≡ errors.old }
+    ensures printed { ReportsOne several source.now (string_bytes address.now) result (N.refusal_of wire.new) (N.reached_of wire.new) (E.contents errors.old) (E.contents errors.new) }
 {
     let ruleset = ruleset_of(bytes);
     match fetch_shown(wire, alloc, bytes, to, ruleset) {

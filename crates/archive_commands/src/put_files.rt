@@ -1,13 +1,16 @@
 //! Several files are read, it is said which of their solutions stop Tile World, and they are sent one after the other.
 
-ghost use Rattle.std.specs.Prelude.{◌≡◌, ◌≢◌, ◌≤◌, [], ◌∷◌, ◌++◌, false, true, map, OnOk, IfOk, IfErr, string_bytes};
+ghost use Rattle.std.specs.Prelude.{◌≡◌, ◌≢◌, ◌≤◌, ℕ, [], ◌∷◌, ◌++◌, false, true, take, Result, map, OnOk, IfOk, IfErr, string_bytes};
 ghost use Rattle.std.specs.Io.KnownBytes.{Appends};
 ghost use Rattle.command_line.specs.Inputs.{has_standard, is_standard};
+ghost use Rattle.command_line.specs.declared.tool_fault.ToolFault.{ToolFault as Fault};
+ghost use Rattle.command_line.specs.Faults.{answer_status};
 ghost use Rattle.command_line.specs.Saying.{Says};
 ghost use Rattle.archive_commands.specs.Labels.{are_several, label_of};
 ghost use Rattle.archive_commands.specs.Lines.{LineFails, Unless, sent_line};
 ghost use Rattle.archive_commands.specs.PutFiles.{AreRead, FailsToRead, HasRead, IsFailedStatus, IsUnread, NotesStopping, PutsFiles, PutsText, PutsWhole, SendsEach, SendsOne, SendsSaid, status_among};
 ghost use Rattle.archive_commands.specs.PutSaid.{PutSaid};
+ghost use Rattle.archive_commands.specs.Reports.{PutReports, ReportsEach, ReportsFirst, ReportsOne, ReportsSent, ReportsUnread, SaysThen};
 ghost use Rattle.archive_commands.specs.Stopping.{IsFirstStopping, stopping_line};
 
 use crate::labels::{are_several, finish_sent, push_label, report_file_fault};
@@ -45,6 +48,7 @@ fn read_one<S: FileSystem, R: Read, E: Write>(
     ensures kept { is_standard source.now ≡ false → input.new ≡ input.old }
     ensures failed { IfErr result IsFailedStatus }
     ensures silent { OnOk result (errors.new ≡ errors.old) }
+    ensures printed { IfErr result (λ status. ReportsUnread several source.now status (E.contents errors.old) (E.contents errors.new)) }
 {
     match source {
         Source::Standard => match read_whole(alloc, input) {
@@ -95,6 +99,7 @@ fn read_all<S: FileSystem, R: Read, E: Write>(
     ensures kept { has_standard sources.now ≡ false → input.new ≡ input.old }
     ensures failed { IfErr result IsFailedStatus }
     ensures silent { OnOk result (errors.new ≡ errors.old) }
+    ensures printed { IfErr result (λ status. ReportsFirst sources.now status (E.contents errors.old) (E.contents errors.new)) }
 {
     let several = are_several(sources);
     let mut texts = Vec::new(alloc);
@@ -168,6 +173,7 @@ fn put_whole<N: TransferWire, W: Write, E: Write>(
     ensures few { result ≤ 4 }
     ensures unwritten { result ≢ 0 → result ≢ 2 → out.new ≡ out.old }
     ensures silent { result ≡ 0 → errors.new ≡ errors.old }
+    ensures printed { (done : Result (Unit {0}) Fault) × (result ≡ answer_status done) × ReportsSent several source.now done (N.refusal_of wire.new) (N.reached_of wire.new) (E.contents errors.old) (E.contents errors.new) }
 {
     let done = put_text(wire, alloc, to, several, source, text, out);
     finish_sent(done, wire, several, source, errors)
@@ -192,6 +198,7 @@ fn send_one<N: TransferWire, W: Write, E: Write>(
     ensures few { result ≤ 4 }
     ensures unwritten { result ≢ 0 → result ≢ 2 → out.new ≡ out.old }
     ensures silent { result ≡ 0 → errors.new ≡ errors.old }
+    ensures printed { ReportsOne several source.now (string_bytes arguments.now.target.address) result (N.refusal_of wire.new) (N.reached_of wire.new) (E.contents errors.old) (E.contents errors.new) }
 {
     if arguments.better {
         let address = &arguments.target.address;
@@ -233,6 +240,7 @@ fn send_each<N: TransferWire, W: Write, E: Write>(
     ensures unreadable { are_several sources.now ≡ true → result ≢ 3 }
     ensures unwritten { are_several sources.now ≡ false → result ≢ 0 → result ≢ 2 → out.new ≡ out.old }
     ensures silent { result ≡ 0 → errors.new ≡ errors.old }
+    ensures printed { (count : ℕ) × ReportsEach (are_several sources.now) (string_bytes arguments.now.target.address) (take count sources.now) (E.contents errors.old) (E.contents errors.new) }
 {
     let several = are_several(sources);
     let mut status = DONE;
@@ -269,6 +277,7 @@ fn say_and_send<N: TransferWire, W: Write, E: Write>(
     ensures unreadable { are_several sources.now ≡ true → result ≢ 3 }
     ensures unwritten { are_several sources.now ≡ false → result ≢ 0 → result ≢ 2 → out.new ≡ out.old }
     ensures said { result ≡ 0 → Says note.now (errors.new ≡ errors.old) (E.contents errors.old) (E.contents errors.new) }
+    ensures printed { SaysThen note.now sources.now (string_bytes arguments.now.target.address) (E.contents errors.old) (E.contents errors.new) }
 {
     match say(note, errors) {
         Ok(()) => send_each(wire, alloc, arguments, to, sources, texts, out, errors),
@@ -295,6 +304,7 @@ pub(crate) fn put_files<S: FileSystem, N: TransferWire, R: Read, W: Write, E: Wr
     ensures unreadable { are_several arguments.now.sources.items ≡ true → result ≡ 3 → out.new ≡ out.old }
     ensures unwritten { are_several arguments.now.sources.items ≡ false → result ≢ 0 → result ≢ 2 → out.new ≡ out.old }
     ensures said { result ≡ 0 → PutSaid (S.bytes_of system.now) arguments.now.sources.items (R.remaining input.old) (errors.new ≡ errors.old) (E.contents errors.old) (E.contents errors.new) }
+    ensures printed { PutReports arguments.now.sources.items (string_bytes arguments.now.target.address) result (E.contents errors.old) (E.contents errors.new) }
 {
     let sources = arguments.sources.as_slice();
     let mut note = String::new(alloc);

@@ -13,29 +13,35 @@ use std::alloc::AllocError;
 use tws_file::{Key, Record, Solution};
 
 // Whether a solution stops Tile World: it has no moves, or is of level 0.
-fn stops(one: &Solution) -> bool
-    ensures { result ≡ stops_tile_world (solution one.now) }
+fn stops(solved: &Solution) -> bool
+    ensures { result ≡ stops_tile_world (solution solved.now) }
 {
-    one.body_len() == 16 || one.key.number == 0
+    solved.body_len() == 16 || solved.key.number == 0
 }
 
 // The level of a solution that does.
-fn stopping_key(record: &Record) -> Option<Key>
-    ensures { result ≡ stopping_key (record_of record.now) }
+fn stopping_key(one: &Record) -> Option<Key>
+    ensures { result ≡ stopping_key (record_of one.now) }
 {
-    match record {
+    match one {
         Record::Pad | Record::Set { .. } | Record::Bare { .. } => None,
-        Record::Solution(one) => { if stops(one) { Some(one.key) } else { None } }
+        Record::Solution(solved) => {
+            if stops(solved) {
+                Some(solved.key)
+            } else {
+                None
+            }
+        }
     }
 }
 
 // The level that was found before, or else that of this record.
-fn or_that_of(before: Option<Key>, record: &Record) -> Option<Key>
-    ensures { result ≡ first_key before (stopping_key (record_of record.now)) }
+fn or_that_of(before: Option<Key>, one: &Record) -> Option<Key>
+    ensures { result ≡ first_key before (stopping_key (record_of one.now)) }
 {
     match before {
         Some(key) => Some(key),
-        None => stopping_key(record),
+        None => stopping_key(one),
     }
 }
 

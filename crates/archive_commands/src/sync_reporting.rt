@@ -1,7 +1,9 @@
 //! Reports of why a sync failed, and its status.
 
-ghost use Rattle.std.specs.Prelude.{◌≡◌, ◌≢◌, ◌≤◌};
+ghost use Rattle.std.specs.Prelude.{◌≡◌, ◌≢◌, ◌≤◌, map, string_bytes};
 ghost use Rattle.command_line.specs.Faults.{status_of};
+ghost use Rattle.command_line.specs.Printing.{Printed};
+ghost use Rattle.archive_commands.specs.Reports.{texts_lines};
 ghost use Rattle.archive_commands.specs.Syncing.{fetch_status, news_status};
 
 use crate::reporting::report_more;
@@ -10,7 +12,7 @@ use crate::sync::SyncArguments;
 use crate::target::Target;
 use crate::transfer_wire::TransferWire;
 use archive_sync::{News, NewsFault, SyncFault};
-use command_line::{DONE, ToolFault, UNREADABLE, USAGE, report};
+use command_line::{DONE, ToolFault, UNREADABLE, USAGE, print_about, report};
 use std::io::Write;
 use std::slice;
 
@@ -52,7 +54,8 @@ pub(crate) fn report_texts<E: Write>(
     address: &String,
     errors: &mut E,
 ) -> u8
-    ensures { result ≡ news_status fault }
+    ensures status { result ≡ news_status fault }
+    ensures printed { Printed (texts_lines (map string_bytes first.now) (string_bytes address.now) fault) (E.contents errors.old) (E.contents errors.new) }
 {
     match fault {
         NewsFault::First(fault) => report(ToolFault::of_input(0, fault), first, errors),
@@ -62,10 +65,10 @@ pub(crate) fn report_texts<E: Write>(
             errors,
         ),
         NewsFault::Rulesets => {
-            let _ = writeln!(errors, "tws: {address}: different rulesets");
+            print_about(address.as_str(), "different rulesets", errors);
             UNREADABLE
         }
-        NewsFault::Memory => report(ToolFault::Memory, &[], errors),
+        NewsFault::Memory => report(ToolFault::Memory, first, errors),
     }
 }
 

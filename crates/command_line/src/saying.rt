@@ -1,6 +1,7 @@
 //! What a command says on standard error of what it did.
 
 ghost use Rattle.std.specs.Prelude.{◌≡◌, ◌≢◌, [], OnOk, OnErr, IfErr};
+ghost use Rattle.byte_output.specs.Output.{AppendsPrefix};
 ghost use Rattle.command_line.specs.Saying.{Says};
 
 use crate::tool_fault::ToolFault;
@@ -16,6 +17,7 @@ pub fn say<E: Write>(text: &str, errors: &mut E) -> Result<(), ToolFault>
     ensures said { OnOk result (Says text.now (errors.new ≡ errors.old) (E.contents errors.old) (E.contents errors.new)) }
     ensures fails { IfErr result (λ e. e ≡ ToolFault.Write) }
     ensures some { OnErr result (text.now ≢ []) }
+    ensures cut { OnErr result (AppendsPrefix (E.contents errors.old) (E.contents errors.new) text.now) }
 {
     if text.is_empty() {
         return Ok(());

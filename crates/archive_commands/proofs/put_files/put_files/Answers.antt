@@ -1,6 +1,7 @@
-use Rattle.std.proofs.Common.{◌≡◌, ℕ, List, Ok, Err, Global, Vec, map, refl, subst, string_bytes}
+use Rattle.std.proofs.Common.{◌≡◌, ℕ, List, Ok, Err, Global, Vec, ap, map, refl, subst, string_bytes}
 use Rattle.command_line.specs.declared.source.Source.{Source}
 use Rattle.archive_commands.specs.PutFiles.{AreRead, FailsToRead}
+use Rattle.archive_commands.proofs.Said.{put_reports, put_unread}
 use Rattle.archive_commands.proofs.Stoppers.{put_said, sends_files}
 use Rattle.archive_commands.proofs.put_files.put_files.Goals as goal
 
@@ -32,3 +33,13 @@ returns-clause-puts g c =
       reads = subst (λ (ss : List Source). FailsToRead (g.S.FileSystem.bytes_of c.args.system.now) ss given left c.in-Err.status) same c.in-Err.ensures.unread;
       sends = record { status_is = refl; unsent = refl; unsaid = refl };
     }
+
+pub returns-in-Ok-clause-printed : goal.returns-in-Ok-clause-printed
+returns-in-Ok-clause-printed g c =
+    put_reports c.as_slice-sources.result.now c.args.arguments.now.sources.items (string_bytes c.args.arguments.now.target.address) c.say_and_send.result (g.E.Write.contents c.args.errors.now) (g.E.Write.contents c.read_all.new.errors) (g.E.Write.contents c.say_and_send.new.errors)
+    c.as_slice-sources.ensures.value c.as_str-note.result.now (ap g.E.Write.contents c.in-Ok.ensures.silent) c.say_and_send.ensures.printed
+
+pub returns-clause-printed : goal.returns-clause-printed
+returns-clause-printed g c =
+    put_unread c.as_slice-sources.result.now c.args.arguments.now.sources.items (string_bytes c.args.arguments.now.target.address) c.in-Err.status (g.E.Write.contents c.args.errors.now) (g.E.Write.contents c.args.errors.now) (g.E.Write.contents c.read_all.new.errors)
+    c.as_slice-sources.ensures.value c.in-Err.ensures.printed

@@ -1,5 +1,7 @@
-use Rattle.std.proofs.Common.{◌∙◌, ℕ, Global, Vec, map, string_bytes}
+use Rattle.std.proofs.Common.{◌∙◌, ℕ, Global, Vec, ap, inl, map, string_bytes}
+use Rattle.command_line.specs.declared.tool_fault.ToolFault.TheVariants.{Memory}
 use Rattle.archive_commands.proofs.Files.{fails_at, is_other, one_more_read, read_lost}
+use Rattle.archive_commands.proofs.Said.{reports_at}
 use Rattle.archive_commands.proofs.Stoppers.{notes_more, read_long}
 use Rattle.archive_commands.proofs.put_files.read_all.Goals as goal
 
@@ -17,6 +19,18 @@ returns-in-Err-clause-unread g c =
     let at = c.loop-source in
     fails_at bytes_of c.args.sources.now at.source-index c.source-item.result (map (λ (text : Vec ℕ Global). text.items) at.texts.items) (g.R.Read.remaining c.args.input.now) (g.R.Read.remaining at.input)
     (g.R.Read.remaining c.read_one.new.input) c.in-Err.status c.loop-source-test.true c.source-item.is at.invariant.read c.in-Err.ensures.unread
+
+pub returns-in-Err-push_file-clause-printed : goal.returns-in-Err-push_file-clause-printed
+returns-in-Err-push_file-clause-printed g c =
+    let at = c.loop-source in
+    reports_at c.args.sources.now c.are_several-several.result at.source-index c.source-item.result c.report_file_fault.result (g.E.Write.contents c.args.errors.now) (g.E.Write.contents c.read_one.new.errors) (g.E.Write.contents c.report_file_fault.new.errors)
+    c.are_several-several.ensures c.loop-source-test.true c.source-item.is (ap g.E.Write.contents (c.in-Ok.ensures.silent ∙ at.invariant.silent)) (inl (Memory, c.report_file_fault.ensures.status, c.report_file_fault.ensures.printed))
+
+pub returns-in-Err-clause-printed : goal.returns-in-Err-clause-printed
+returns-in-Err-clause-printed g c =
+    let at = c.loop-source in
+    reports_at c.args.sources.now c.are_several-several.result at.source-index c.source-item.result c.in-Err.status (g.E.Write.contents c.args.errors.now) (g.E.Write.contents at.errors) (g.E.Write.contents c.read_one.new.errors)
+    c.are_several-several.ensures c.loop-source-test.true c.source-item.is (ap g.E.Write.contents at.invariant.silent) c.in-Err.ensures.printed
 
 pub loop-source-preserved : goal.loop-source-preserved
 loop-source-preserved g c =

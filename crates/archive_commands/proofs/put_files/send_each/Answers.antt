@@ -1,7 +1,8 @@
-use Rattle.std.proofs.Common.{◌≡◌, ◌∙◌, ℕ, Bool, List, ◌∷◌, length, Global, Vec, map, arith, sym, subst}
+use Rattle.std.proofs.Common.{◌≡◌, ◌∙◌, ℕ, Bool, List, ◌∷◌, length, Global, Vec, map, arith, sym, subst, string_bytes}
 use Rattle.std.specs.Vec.Iter.{into_iter_items}
 use Rattle.archive_commands.specs.PutFiles.{SendsEach}
 use Rattle.archive_commands.proofs.Files.{few_now, first_index, leads_end, leads_next, leads_out, no_usage_now, only_now, readable_now, zero_now}
+use Rattle.archive_commands.proofs.Said.{each_more}
 use Rattle.archive_commands.proofs.put_files.send_each.Goals as goal
 
 pub returns-in_default-clause-sends : goal.returns-in_default-clause-sends
@@ -41,6 +42,8 @@ loop-source-preserved g c =
           let first = at.invariant.begun (first_index c.args.sources.now several at.source-index c.loop-source-test.true c.are_several-several.ensures single) in
           let same = only_now several at.status one among now among-is now-is single first.0 in
           sent.unwritten (λ zero. some (same ∙ zero)) (λ two. other (same ∙ two)) ∙ first.1;
+      printed = each_more several (string_bytes c.args.arguments.now.target.address) c.args.sources.now at.source-index c.source-item.result (g.E.Write.contents c.args.errors.now) (g.E.Write.contents at.errors) (g.E.Write.contents c.send_one-one.new.errors)
+          one (g.N.TransferWire.refusal_of c.send_one-one.new.wire) (g.N.TransferWire.reached_of c.send_one-one.new.wire) c.loop-source-test.true c.source-item.is at.invariant.printed sent.printed;
       silent = λ zero.
           let both = zero_now several at.status one among now among-is now-is zero in
           sent.silent both.1 ∙ at.invariant.silent both.0;
