@@ -10,7 +10,8 @@ use Rattle.byteorder.specs.Endian.{little_number}
 use Rattle.byte_output.specs.Output.{Sends}
 use Rattle.byte_output.proofs.Sending.{Sends-none, all_sent}
 use Rattle.archive_history.proofs.Ranges.{Sends-after}
-use Rattle.archive_history.specs.Kept.{record_length, kept_of, kept_after, kept_in, kept_records, header_length, without_pads, Passes}
+use Rattle.archive_history.specs.Kept.{record_length, kept_of, kept_after, kept_in, kept_records, header_length, without_pads}
+use Rattle.archive_history.specs.Steps.{Passes}
 
 -- ---- a record's length
 

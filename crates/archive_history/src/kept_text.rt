@@ -3,7 +3,8 @@
 ghost use Rattle.std.specs.Prelude.{◌≡◌, ◌<◌, ◌≤◌, ◌+◌, ◌-◌, ◌++◌, length, take, drop, slice_index, OnOk, IfOk};
 ghost use Rattle.std.specs.Io.KnownBytes.{Appends};
 ghost use Rattle.byte_output.specs.Output.{Sends};
-ghost use Rattle.archive_history.specs.Kept.{record_length, header_length, without_pads, Passes};
+ghost use Rattle.archive_history.specs.Kept.{record_length, header_length, without_pads};
+ghost use Rattle.archive_history.specs.Steps.{Passes};
 
 use byte_output::{Buffer, OutFault, put};
 use byteorder::{ByteOrder, LittleEndian};
