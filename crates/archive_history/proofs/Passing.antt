@@ -1,5 +1,5 @@
 -- The records of a file, passed one by one.
-use Rattle.std.proofs.Common.{◌≡◌, ◌≢◌, ℕ, zero, suc, ◌+◌, ◌-◌, ◌<◌, ◌≤◌, ◌==◌, nat_lt, Bool, true, false, List, [], ◌∷◌, ◌++◌, length, take, drop, slice_index, Option, None, Some, refl, ap, sym, ◌∙◌, subst, arith, append_assoc, length-drop, drop-drop, take-append-drop}
+use Rattle.std.proofs.Common.{◌≡◌, ◌≢◌, ℕ, zero, suc, ◌+◌, ◌-◌, ◌<◌, ◌≤◌, ◌==◌, nat_lt, Bool, true, false, List, [], ◌∷◌, ◌++◌, length, take, drop, slice_index, Option, None, Some, refl, ap, sym, ◌∙◌, subst, arith, append_assoc, append-nil, length-drop, drop-drop, take-append-drop}
 use Rattle.std.proofs.Math.Seq.{take-add}
 use Rattle.std.proofs.lemmas.Bool.{ltb-false}
 use Rattle.std.proofs.lemmas.Bool.Decides.{nat_tests}
@@ -7,8 +7,11 @@ use Rattle.std.proofs.lemmas.List.{nil_from_length, take_rest, get_or-drop}
 use Rattle.std.specs.Prelude.{if◌then◌else◌}
 use Rattle.std.specs.Io.KnownBytes.{Appends}
 use Rattle.byteorder.specs.Endian.{little_number}
-use Rattle.byte_output.proofs.Sending.{Appends-nil, Appends-then}
-use Rattle.archive_history.specs.Kept.{record_length, kept_of, kept_after, kept_in, kept_records, header_length, without_pads, Passes}
+use Rattle.byte_output.specs.Output.{Sends}
+use Rattle.byte_output.proofs.Sending.{Sends-none, all_sent}
+use Rattle.archive_history.proofs.Ranges.{Sends-after}
+use Rattle.archive_history.specs.Kept.{record_length, kept_of, kept_after, kept_in, kept_records, header_length, without_pads}
+use Rattle.archive_history.specs.Steps.{Passes}
 
 -- ---- a record's length
 
@@ -82,55 +85,56 @@ kept-rest xs none = kept-step xs ∙ ap (λ (r : Option ℕ). kept_after r kept_
 -- ---- a file that is written
 
 -- the bytes from `begun` up to `at` wait, and with what is kept of the records after them they complete what is kept of the file
-pub record HasPassed (old new : Option (List ℕ)) (file : List ℕ) (begun at : ℕ) : Type 0 where
+pub record HasPassed (old new : Option (List ℕ)) (buffer file : List ℕ) (begun at : ℕ) : Type 0 where
   pub before : begun ≤ at
   pub within : begun ≤ length file
-  pub sent : List ℕ
-  pub appends : Appends old new sent
-  pub split : sent ++ (take (at - begun) (drop begun file) ++ kept_records (drop at file)) ≡ without_pads file
+  pub text : List ℕ
+  pub sends : Sends old new text buffer
+  pub split : text ++ (take (at - begun) (drop begun file) ++ kept_records (drop at file)) ≡ without_pads file
 
 -- at first the header waits
-pub passed_none : (old : Option (List ℕ)) (file : List ℕ) → HasPassed old old file 0 (header_length file)
+pub passed_none : (old : Option (List ℕ)) (buffer file : List ℕ) → buffer ≡ [] → HasPassed old old buffer file 0 (header_length file)
 unfolding without_pads
-passed_none old file =
+passed_none old buffer file none =
     let whole : header_length file - 0 ≡ header_length file = omega arith in
     record {
       before = omega arith;
       within = omega arith;
-      sent = [];
-      appends = Appends-nil old;
+      text = [];
+      sends = subst (λ (xs : List ℕ). Sends old old [] xs) (sym none) (Sends-none old []);
       split = ap (λ (n : ℕ). take n file ++ kept_records (drop (header_length file) file)) whole;
     }
 
 -- a record with a body waits too
-pub passes_kept : (old : Option (List ℕ)) (file : List ℕ) (begun at after : ℕ) → begun ≤ at → at ≤ after → after - at ≢ 4 → Passes old old file begun at after begun
-passes_kept old file begun at after before some other =
+pub passes_kept : (old : Option (List ℕ)) (buffer file : List ℕ) (begun at after : ℕ) → begun ≤ at → at ≤ after → after - at ≢ 4 → Passes old old buffer buffer file begun at after begun
+passes_kept old buffer file begun at after before some other =
     let size = after - at in
     let is : (size == 4) ≡ false = grind (arith, nat_tests) in
     let place : begun + (at - begun) ≡ at = omega arith in
     let count : after - begun ≡ (at - begun) + size = omega arith in (
       [],
-      Appends-nil old,
+      subst (λ (xs : List ℕ). Sends old old xs buffer) (sym (append-nil buffer)) (Sends-none old buffer),
       ap (λ (n : ℕ). take n (drop begun file)) count
           ∙ take-add (at - begun) size (drop begun file)
           ∙ ap (λ (xs : List ℕ). take (at - begun) (drop begun file) ++ take size xs) (drop-drop (at - begun) begun file ∙ ap (λ (n : ℕ). drop n file) place)
           ∙ ap (λ (b : Bool). take (at - begun) (drop begun file) ++ (if b then [] else take size (drop at file))) (sym is),
     )
 
--- before a pad, what waits is written
-pub passes_pad : (old new : Option (List ℕ)) (file : List ℕ) (begun at after : ℕ) → after - at ≡ 4 → Appends old new (take (at - begun) (drop begun file)) → Passes old new file begun at after after
-passes_pad old new file begun at after size appends =
+-- before a pad, what waits is sent
+pub passes_pad : (old new : Option (List ℕ)) (buffer buffer' file : List ℕ) (begun at after : ℕ) → after - at ≡ 4 → Sends old new (buffer ++ take (at - begun) (drop begun file)) buffer' →
+    Passes old new buffer buffer' file begun at after after
+passes_pad old new buffer buffer' file begun at after size sends =
     let none : after - after ≡ 0 = omega arith in (
       take (at - begun) (drop begun file),
-      appends,
+      sends,
       ap (λ (n : ℕ). take (at - begun) (drop begun file) ++ take n (drop after file)) none
           ∙ ap (λ (n : ℕ). take (at - begun) (drop begun file) ++ kept_of n (drop at file)) (sym size),
     )
 
 -- one more record was passed
-pub passed_more : (old mid new : Option (List ℕ)) (file : List ℕ) (begun at size next : ℕ) → record_length (drop at file) ≡ Some size → next ≤ at + size →
-    HasPassed old mid file begun at → Passes mid new file begun at (at + size) next → HasPassed old new file next (at + size)
-passed_more old mid new file begun at size next found within passed passes =
+pub passed_more : (old mid new : Option (List ℕ)) (buffer buffer' file : List ℕ) (begun at size next : ℕ) → record_length (drop at file) ≡ Some size → next ≤ at + size →
+    HasPassed old mid buffer file begun at → Passes mid new buffer buffer' file begun at (at + size) next → HasPassed old new buffer' file next (at + size)
+passed_more old mid new buffer buffer' file begun at size next found within passed passes =
     let size-fits = size_within (drop at file) size found in
     let size-is : at + size - at ≡ size = omega arith in
     let waited = take (at - begun) (drop begun file) in
@@ -147,15 +151,15 @@ passed_more old mid new file begun at size next found within passed passes =
     record {
       before = within;
       within = omega (arith, within, size-fits.0, size-fits.1, length-drop at file);
-      sent = passed.sent ++ passes.0;
-      appends = Appends-then old mid new passed.sent passes.0 passed.appends passes.1;
-      split = append_assoc passed.sent passes.0 (waits ++ after) ∙ ap (λ (xs : List ℕ). passed.sent ++ xs) (sym joined) ∙ passed.split;
+      text = passed.text ++ passes.0;
+      sends = Sends-after old mid new passed.text buffer passes.0 buffer' passed.sends passes.1;
+      split = append_assoc passed.text passes.0 (waits ++ after) ∙ ap (λ (xs : List ℕ). passed.text ++ xs) (sym joined) ∙ passed.split;
     }
 
--- at the end, what waits and the rest are written
-pub passed_all : (old mid new : Option (List ℕ)) (file : List ℕ) (begun at end : ℕ) → end ≡ length file → record_length (drop at file) ≡ None →
-    HasPassed old mid file begun at → Appends mid new (take (end - begun) (drop begun file)) → Appends old new (without_pads file)
-passed_all old mid new file begun at end end-is none passed appends =
+-- at the end, what waits and the rest are sent, and what was gathered is written
+pub passed_all : (old mid sent new : Option (List ℕ)) (buffer buffer' file : List ℕ) (begun at end : ℕ) → end ≡ length file → record_length (drop at file) ≡ None →
+    HasPassed old mid buffer file begun at → Sends mid sent (buffer ++ take (end - begun) (drop begun file)) buffer' → Appends sent new buffer' → Appends old new (without_pads file)
+passed_all old mid sent new buffer buffer' file begun at end end-is none passed sends appends =
     let place : begun + (at - begun) ≡ at = omega (arith, passed.before) in
     let waited = take (at - begun) (drop begun file) in
     let rest : take (end - begun) (drop begun file) ≡ waited ++ kept_records (drop at file) =
@@ -163,5 +167,6 @@ passed_all old mid new file begun at end end-is none passed appends =
     ∙ take_rest file begun
     ∙ sym (take-append-drop (at - begun) (drop begun file))
     ∙ ap (λ (xs : List ℕ). waited ++ xs) (drop-drop (at - begun) begun file ∙ ap (λ (n : ℕ). drop n file) place ∙ sym (kept-rest (drop at file) none)) in
-    subst (λ (xs : List ℕ). Appends old new xs) (ap (λ (xs : List ℕ). passed.sent ++ xs) rest ∙ passed.split)
-    (Appends-then old mid new passed.sent (take (end - begun) (drop begun file)) passed.appends appends)
+    let all = Sends-after old mid sent passed.text buffer (take (end - begun) (drop begun file)) buffer' passed.sends sends in
+    subst (λ (xs : List ℕ). Appends old new xs) (ap (λ (xs : List ℕ). passed.text ++ xs) rest ∙ passed.split)
+    (all_sent old sent new (passed.text ++ take (end - begun) (drop begun file)) buffer' all appends)

@@ -1,9 +1,9 @@
 -- The bytes of a file from one place on, in its chunks, and as they are written.
-use Rattle.std.proofs.Common.{◌≡◌, ℕ, ◌+◌, ◌-◌, ◌*◌, ◌/◌, ◌%◌, ◌<◌, ◌≤◌, min, List, ◌++◌, length, take, drop, slice_index, slice_index_or, get_or, Option, ap, sym, ◌∙◌, subst, arith, length-take, length-drop, drop-drop, take-take}
+use Rattle.std.proofs.Common.{◌≡◌, ℕ, ◌+◌, ◌-◌, ◌*◌, ◌/◌, ◌%◌, ◌<◌, ◌≤◌, min, List, ◌++◌, length, take, drop, slice_index, slice_index_or, get_or, Option, ap, sym, ◌∙◌, subst, arith, append_assoc, length-take, length-drop, drop-drop, take-take}
 use Rattle.std.proofs.Math.Seq.{take-add}
 use Rattle.std.proofs.lemmas.List.{drop-take, take_rest, get_or-take, get_or-drop}
-use Rattle.std.specs.Io.KnownBytes.{Appends}
-use Rattle.byte_output.proofs.Sending.{Appends-then}
+use Rattle.byte_output.specs.Output.{Sends}
+use Rattle.byte_output.proofs.Sending.{Sends-push, Sends-then}
 use Rattle.tftp_ends.specs.declared.chunks.TheConstants.{CHUNK_SIZE}
 use Rattle.tftp_ends.specs.Chunks.{chunk_of}
 use Rattle.tftp_ends.proofs.Chunking.{length-chunk_of}
@@ -66,16 +66,22 @@ module _ (file chunk : List ℕ) (at to count : ℕ) (inside : at < length file)
       ∙ first_in file chunk at count chunk-is (omega (arith, count-is, rest_size))
       ∙ ap (λ (n : ℕ). take n (drop at file)) (sym piece_size)
 
--- ---- written
+-- ---- sent
 
--- more bytes were written after those before them
-pub range_more : (old mid new : Option (List ℕ)) (file piece : List ℕ) (from at : ℕ) → from ≤ at → piece ≡ take (length piece) (drop at file) →
-    Appends old mid (take (at - from) (drop from file)) → Appends mid new piece → Appends old new (take (at + length piece - from) (drop from file))
-range_more old mid new file piece from at before piece-is first second =
+-- more bytes were sent after others, of which a rest was gathered
+pub Sends-after : (old mid new : Option (List ℕ)) (text rest bytes rest' : List ℕ) → Sends old mid text rest → Sends mid new (rest ++ bytes) rest' → Sends old new (text ++ bytes) rest'
+Sends-after old mid new text rest bytes rest' first second = Sends-then old mid new (text ++ bytes) (rest ++ bytes) (Sends-push old mid new text rest first bytes) rest' second
+
+-- more bytes of a file were sent after those before them
+pub range_more : (old mid new : Option (List ℕ)) (buffer rest rest' file piece : List ℕ) (from at : ℕ) → from ≤ at → piece ≡ take (length piece) (drop at file) →
+    Sends old mid (buffer ++ take (at - from) (drop from file)) rest → Sends mid new (rest ++ piece) rest' → Sends old new (buffer ++ take (at + length piece - from) (drop from file)) rest'
+range_more old mid new buffer rest rest' file piece from at before piece-is first second =
     let place : from + (at - from) ≡ at = omega arith in
     let count : at - from + length piece ≡ at + length piece - from = omega arith in
-    subst (λ (xs : List ℕ). Appends old new xs)
+    subst (λ (xs : List ℕ). Sends old new xs rest')
+    (append_assoc buffer (take (at - from) (drop from file)) piece
+    ∙ ap (λ (xs : List ℕ). buffer ++ xs)
     (ap (λ (xs : List ℕ). take (at - from) (drop from file) ++ xs) (piece-is ∙ ap (λ (n : ℕ). take (length piece) (drop n file)) (sym place) ∙ ap (take (length piece)) (sym (drop-drop (at - from) from file)))
     ∙ sym (take-add (at - from) (length piece) (drop from file))
-    ∙ ap (λ (n : ℕ). take n (drop from file)) count)
-    (Appends-then old mid new (take (at - from) (drop from file)) piece first second)
+    ∙ ap (λ (n : ℕ). take n (drop from file)) count))
+    (Sends-after old mid new (buffer ++ take (at - from) (drop from file)) rest piece rest' first second)

@@ -1,6 +1,5 @@
 -- What a history keeps of a file: all but its pads.
-use Rattle.std.specs.Prelude.{◌≡◌, ℕ, zero, suc, ◌+◌, ◌-◌, ◌==◌, nat_lt, Bool, true, false, List, [], ◌++◌, length, take, drop, filter, slice_index, Option, None, Some, if◌then◌else◌}
-use Rattle.std.specs.Io.KnownBytes.{Appends}
+use Rattle.std.specs.Prelude.{ℕ, zero, suc, ◌+◌, ◌==◌, nat_lt, Bool, true, false, List, [], ◌++◌, length, take, drop, filter, slice_index, Option, None, Some, if◌then◌else◌}
 use Rattle.byteorder.specs.Endian.{little_number}
 use Rattle.tws_file.specs.Text.{File, Record, pad, set, bare, solution}
 
@@ -35,11 +34,6 @@ header_length bytes = 8 + slice_index bytes 7
 -- the header, and the records that have a body
 unfoldable pub without_pads : List ℕ → List ℕ
 without_pads bytes = take (header_length bytes) bytes ++ kept_records (drop (header_length bytes) bytes)
-
--- of a file, the record from `at` up to `after` was passed: the bytes from `begun` on waited before, and those from `next` on do after it
-abbrev pub Passes : (old new : Option (List ℕ)) (file : List ℕ) (begun at after next : ℕ) → Type 0
-Passes old new file begun at after next =
-    (sent : List ℕ) × Appends old new sent × (sent ++ take (after - next) (drop next file) ≡ take (at - begun) (drop begun file) ++ kept_of (after - at) (drop at file))
 
 -- ---- files
 

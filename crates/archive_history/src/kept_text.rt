@@ -1,10 +1,12 @@
 //! What a history keeps of a file: all but its pads.
 
-ghost use Rattle.std.specs.Prelude.{◌≡◌, ◌<◌, ◌≤◌, ◌+◌, ◌-◌, length, take, drop, slice_index, OnOk, IfOk};
+ghost use Rattle.std.specs.Prelude.{◌≡◌, ◌<◌, ◌≤◌, ◌+◌, ◌-◌, ◌++◌, length, take, drop, slice_index, OnOk, IfOk};
 ghost use Rattle.std.specs.Io.KnownBytes.{Appends};
-ghost use Rattle.archive_history.specs.Kept.{record_length, header_length, without_pads, Passes};
+ghost use Rattle.byte_output.specs.Output.{Sends};
+ghost use Rattle.archive_history.specs.Kept.{record_length, header_length, without_pads};
+ghost use Rattle.archive_history.specs.Steps.{Passes};
 
-use byte_output::{OutFault, put};
+use byte_output::{Buffer, OutFault, put};
 use byteorder::{ByteOrder, LittleEndian};
 use folders::Contents;
 use std::alloc::Allocator;
@@ -18,6 +20,9 @@ const EXTRA: usize = 7;
 
 // The length of a size field. A record that has nothing else is a pad.
 const FIELD: usize = 4;
+
+// How many bytes are written together, however short the records between two pads are.
+const GATHERED: usize = 1 << 14;
 
 /// What a history keeps of a file that was taken. It is written from the file's chunks, so nothing is allocated.
 #[derive(Drop)]
@@ -63,21 +68,22 @@ fn piece_at<A: Allocator>(file: &Received<A>, at: usize, to: usize) -> &[u8]
     &rest[..count]
 }
 
-// Writes the bytes from one place up to another.
-fn write_range<A: Allocator, W: Write>(
+// Sends the bytes from one place up to another.
+fn send_range<A: Allocator, W: Write>(
     file: &Received<A>,
     from: usize,
     to: usize,
+    buffer: &mut Buffer<GATHERED>,
     out: &mut W,
 ) -> Result<(), OutFault>
     requires before { from ≤ to }
     requires within { to ≤ length file.now }
-    ensures { OnOk result (Appends (W.contents out.old) (W.contents out.new) (take (to - from) (drop from file.now))) }
+    ensures { OnOk result (Sends (W.contents out.old) (W.contents out.new) (buffer.old ++ take (to - from) (drop from file.now)) buffer.new) }
 {
     let mut at = from;
     while at < to {
         let piece = piece_at(file, at, to);
-        put(out, piece)?;
+        buffer.send(piece, out)?;
         at += piece.len();
     }
     Ok(())
@@ -112,25 +118,26 @@ fn record_length<A: Allocator>(file: &Received<A>, at: usize) -> Option<usize>
     if rest < size { None } else { Some(size) }
 }
 
-// Passes the record from one place up to another. If it is a pad, all that waits before it is written; otherwise it waits too.
+// Passes the record from one place up to another. If it is a pad, all that waits before it is sent; otherwise it waits too.
 // Returns where what waits begins.
 fn pass_record<A: Allocator, W: Write>(
     file: &Received<A>,
     begun: usize,
     at: usize,
     after: usize,
+    buffer: &mut Buffer<GATHERED>,
     out: &mut W,
 ) -> Result<usize, OutFault>
     requires begun { begun ≤ at }
     requires some { at ≤ after }
     requires within { after ≤ length file.now }
     ensures begins { IfOk result (λ next. next ≤ after) }
-    ensures passes { IfOk result (λ next. Passes (W.contents out.old) (W.contents out.new) file.now begun at after next) }
+    ensures passes { IfOk result (λ next. Passes (W.contents out.old) (W.contents out.new) buffer.old buffer.new file.now begun at after next) }
 {
     if after - at != FIELD {
         return Ok(begun);
     }
-    write_range(file, begun, at, out)?;
+    send_range(file, begun, at, buffer, out)?;
     Ok(after)
 }
 
@@ -138,13 +145,15 @@ fn pass_record<A: Allocator, W: Write>(
 fn write_kept<A: Allocator, W: Write>(file: &Received<A>, out: &mut W) -> Result<(), OutFault>
     ensures { OnOk result (Appends (W.contents out.old) (W.contents out.new) (without_pads file.now)) }
 {
+    let mut buffer = Buffer::new();
     let end = length_of(file);
     let mut begun = 0;
     let mut at = header_length(file);
     while let Some(size) = record_length(file, at) {
         let after = at + size;
-        begun = pass_record(file, begun, at, after, out)?;
+        begun = pass_record(file, begun, at, after, &mut buffer, out)?;
         at = after;
     }
-    write_range(file, begun, end, out)
+    send_range(file, begun, end, &mut buffer, out)?;
+    put(out, buffer.as_slice())
 }
