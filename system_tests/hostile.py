@@ -405,9 +405,10 @@ def no_solution_stops_tile_world():
     good = file("good.tws", record(1, moves=b"\0"))
     with Server(takes=()) as server:
         check("a solution with moves", server.put(good)[0] == 0)
-        for name, bad in (("no moves", record(1, ticks=1)), ("level 0", record(0, b"\0ABC", moves=b"\0"))):
+        for name, level, bad in (("no moves", b"1 BDHP", record(1, ticks=1)), ("level 0", b"0 x00414243", record(0, b"\0ABC", moves=b"\0"))):
             told = server.put(file("bad.tws", bad, record(2, moves=b"\0")))[:2]
-            check(f"a solution of {name}: {told}", told == (4, b"tws: transfer failed: refused 0\ntws: the server says: not kept\n"))
+            stops = b"tws: level " + level + b" stops Tile World: an archive may refuse the file\n"
+            check(f"a solution of {name}: {told}", told == (4, stops + b"tws: transfer failed: refused 0\ntws: the server says: not kept\n"))
             check(f"what is served after {name}", server.get()[0] == 0 and loaded(os.path.join(FOLDER, "got")) == loaded(good))
         print("solutions without moves and of level 0: the put is refused")
 

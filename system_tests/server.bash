@@ -82,14 +82,17 @@ first_lines() {
 }
 
 # gives NAME STATUS OUT ERRORS WORDS: the program prints this and exits with this status, within two minutes. Where it
-# prints errors, a further line may have more.
+# prints errors, a further line may have more. The line of a put for a solution that stops Tile World is compared only where it
+# is wanted: most files of these tests have one.
 gives() {
     local name=$1 want=$2 status
+    local stops=' stops Tile World: an archive may refuse the file$'
     printf '%s' "${3:+$3$'\n'}" >"$work/want.out"
     printf '%s' "${4:+$4$'\n'}" >"$work/want.errors"
     shift 4
     timeout 120 "$program" "$@" >"$work/out" 2>"$work/errors" </dev/null
     status=$?
+    grep -qs "$stops" "$work/want.errors" || sed -i "/$stops/d" "$work/errors"
     check "$name, status $status" [ "$status" = "$want" ]
     check "$name, output" cmp "$work/out" "$work/want.out"
     check "$name, errors" first_lines "$work/want.errors" "$work/errors"

@@ -5,7 +5,9 @@ pub mod Listening
 pub mod Listing
 pub mod Plans
 pub mod Ranges
-pub mod Sending
+pub mod Said
+mod Sending
 pub mod Statuses
+pub mod Stoppers
 pub mod Syncs
 pub mod Taking

@@ -8,10 +8,13 @@ pub mod Lines
 pub mod Ports
 pub mod Put
 pub mod Reached
+pub mod Reports
 pub mod PutBetter
 pub mod PutFiles
 pub mod PutRan
+pub mod PutSaid
 pub mod Get
 pub mod Serve
+pub mod Stopping
 pub mod Syncing
 pub mod Sync

@@ -4,6 +4,7 @@ use Rattle.std.specs.Io.KnownBytes.{Appends, Consumes, IsAtEnd}
 use Rattle.clap.specs.Words.{App, Row, Rule, Text, new_app, with_rule}
 use Rattle.byte_output.specs.Output.{AppendsPrefix}
 use Rattle.tws_file.specs.declared.file_fault.FileFault.{FileFault}
+use Rattle.tws_file.specs.declared.key.Key.{Key}
 use Rattle.tws_file.specs.Text.{IsReadable, Record}
 use Rattle.tws_file.specs.Fault.{HasFileFault, IsLasting}
 use Rattle.tws_reader.specs.PartReader.{HasRead, PartReading}
@@ -22,6 +23,7 @@ use Rattle.command_line.specs.declared.tool_fault.ToolFault.TheVariants.{Read, W
 use Rattle.archive_commands.specs.Arguments.{HasTarget, address_rule, flag_rule, number_rule, port_option}
 use Rattle.command_line.specs.Arguments.{HasFlag, HasSources, files_rule}
 use Rattle.archive_commands.specs.Lines.{sent_line}
+use Rattle.archive_commands.specs.Stopping.{first_stopping}
 
 abbrev pub put_name : Text
 put_name = codes "put"
@@ -55,12 +57,13 @@ pub record ReadsAtMost (most : ℕ) (old new : Option (List ℕ)) : Type 0 where
 abbrev pub IsSound : List ℕ → Type 0
 IsSound bytes = (fault : FileFault) → IsLasting fault → HasFileFault bytes fault → ⊥
 
--- these bytes of an input were kept, and read as they came
-pub record HasBytes (kept : List ℕ) (reader : PartReading) (bytes : List ℕ) : Type 0 where
+-- these bytes of an input were kept, and read as they came; the level is that of the first solution that stops Tile World
+pub record HasBytes (kept : List ℕ) (reader : PartReading) (found : Option Key) (bytes : List ℕ) : Type 0 where
   pub same : kept ≡ bytes
   pub short : length bytes ≤ MAX_FILE
   pub records : List Record
   pub read : HasRead reader records bytes
+  pub first : found ≡ first_stopping records
   pub sound : IsSound bytes
 
 -- why an input that begins with these bytes is read no further

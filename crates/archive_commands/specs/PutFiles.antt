@@ -1,7 +1,9 @@
--- What `put` does once it is known where the archive is: it reads all files, and then sends each of them, whole or what of it
--- is better.
-use Rattle.std.specs.Prelude.{◌≡◌, ◌≢◌, ℕ, ◌==◌, ◌≤◌, Bool, true, false, ◌&&◌, if◌then◌else◌, List, [], ◌∷◌, ◌++◌, length, Option, IfOk, Result, Ok, Err, string_bytes}
+-- What `put` does once it is known where the archive is: it reads all files, says which of their solutions stop Tile World, and
+-- then sends each file, whole or what of it is better.
+use Rattle.std.specs.Prelude.{◌≡◌, ◌≢◌, ◌⊎◌, ℕ, ◌==◌, ◌≤◌, Bool, true, false, ◌&&◌, if◌then◌else◌, List, [], ◌∷◌, ◌++◌, length, Option, IfOk, Result, Ok, Err, string_bytes}
 use Rattle.std.specs.Io.KnownBytes.{Appends, IsAtEnd}
+use Rattle.std.specs.List.{AllZip}
+use Rattle.tws_file.specs.declared.key.Key.{Key}
 use Rattle.tftp_packet.specs.declared.endpoint.Endpoint.{Endpoint}
 use Rattle.archive_wire.specs.Wire.{Entry}
 use Rattle.archive_runs.specs.declared.run_fault.RunFault.{RunFault}
@@ -16,6 +18,7 @@ use Rattle.archive_commands.specs.Labels.{are_several, label_of}
 use Rattle.archive_commands.specs.Lines.{LineFails, sent_line}
 use Rattle.archive_commands.specs.Put.{IsReadUp, IsWholeInput, WholeFails}
 use Rattle.archive_commands.specs.PutBetter.{PutsBetter}
+use Rattle.archive_commands.specs.Stopping.{IsFirstStopping, stopping_lines}
 use Rattle.archive_commands.specs.Syncing.{Stops, first_of}
 
 -- ---- reading, given what is known of the bytes of the file with each name, and what standard input had and has left
@@ -112,9 +115,21 @@ abbrev pub ReadsFiles : (bytes_of : List ℕ → Option (List ℕ)) → List Sou
 ReadsFiles bytes_of sources (Ok texts) given left = AreRead bytes_of sources texts given left
 ReadsFiles bytes_of sources (Err status) given left = FailsToRead bytes_of sources given left status
 
+-- each file is sent; or there was this to say before, and it could not be said
+abbrev pub SendsSaid : (better several : Bool) → (note : List ℕ) → (to : Endpoint) → List Source → (texts : List (List ℕ)) → (status : ℕ) → (before after : Option (List Entry)) → (old new : Option (List ℕ)) → Type 0
+SendsSaid better several note to sources texts status before after old new =
+    SendsEach better several to sources texts status before after old new ⊎ ((note ≢ []) × Stops status 2 before after old new)
+
+-- which of the solutions in these texts stop Tile World
+pub record NotesStopping (several : Bool) (sources : List Source) (texts : List (List ℕ)) (note : List ℕ) : Type 0 where
+  pub found : List (Option Key)
+  pub first : AllZip IsFirstStopping texts found
+  pub note_is : note ≡ stopping_lines several sources found
+
 -- nothing is sent if one was not
 abbrev pub SendsFiles : (better : Bool) → List Source → Result (List (List ℕ)) ℕ → (to : Endpoint) → (status : ℕ) → (before after : Option (List Entry)) → (old new : Option (List ℕ)) → Type 0
-SendsFiles better sources (Ok texts) to status before after old new = SendsEach better (are_several sources) to sources texts status before after old new
+SendsFiles better sources (Ok texts) to status before after old new =
+    (note : List ℕ) × NotesStopping (are_several sources) sources texts note × SendsSaid better (are_several sources) note to sources texts status before after old new
 SendsFiles better sources (Err wanted) to status before after old new = Stops status wanted before after old new
 
 -- a put of these files, to the server at this host and port, ended with this status

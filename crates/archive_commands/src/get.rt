@@ -1,6 +1,6 @@
 //! The command `get`.
 
-ghost use Rattle.std.specs.Prelude.{◌≡◌, ◌≢◌, ◌⊎◌, false, OnOk, OnErr, IfOk, IfErr};
+ghost use Rattle.std.specs.Prelude.{◌≡◌, ◌≢◌, ◌⊎◌, false, OnOk, OnErr, IfOk, IfErr, string_bytes};
 ghost use Rattle.clap.specs.Matches.{found_of};
 ghost use Rattle.clap.specs.Words.{app_of, rows_of};
 ghost use Rattle.clap.specs.declared.builder.command.Command.TheViews.{out-Command};
@@ -9,6 +9,7 @@ ghost use Rattle.archive_commands.specs.Get.{AsksToGet, FetchFails, Fetches, Get
 ghost use Rattle.command_line.specs.Faults.{status_of};
 ghost use Rattle.system_files.specs.Files.{Keeps};
 ghost use Rattle.archive_commands.specs.Lines.{Unless};
+ghost use Rattle.archive_commands.specs.Reports.{GetReports, ReportsGet};
 
 use crate::address::locate;
 use crate::arguments::{address_argument, file_argument, port_argument, target_given};
@@ -113,7 +114,8 @@ fn report_get<N: TransferWire, E: Write>(
     wire: &N,
     errors: &mut E,
 ) -> u8
-    ensures { result ≡ status_of fault.fault }
+    ensures status { result ≡ status_of fault.fault }
+    ensures printed { ReportsGet fault.cause fault.fault (string_bytes arguments.now.file) (string_bytes arguments.now.target.address) (N.refusal_of wire.now) (N.reached_of wire.now) (E.contents errors.old) (E.contents errors.new) }
 {
     match fault.cause {
         Some(cause) => report_file(fault.fault, arguments.file.as_str(), &cause, errors),
@@ -224,6 +226,7 @@ pub fn run<S: FileSystem + Resolver, N: TransferWire, W: Write, E: Write>(
     ensures ran { GetRan (record { bytes_of = S.bytes_of system.old; drafted_of = S.drafted_of system.old; below_of = S.below_of system.old; host_of = S.host_of system.old }) arguments.now result (N.calls wire.old) (N.calls wire.new) (S.bytes_of system.new) (W.contents out.old) (W.contents out.new) }
     ensures unwritten { result ≢ 0 → result ≢ 2 → out.new ≡ out.old }
     ensures silent { result ≡ 0 → errors.new ≡ errors.old }
+    ensures printed { result ≢ 0 → GetReports (string_bytes arguments.now.target.address) (string_bytes arguments.now.file) result (N.refusal_of wire.new) (N.reached_of wire.new) (E.contents errors.old) (E.contents errors.new) }
 {
     let target = &arguments.target;
     let Some(host) = locate(system, target.address.as_str()) else {

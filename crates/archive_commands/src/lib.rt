@@ -27,6 +27,7 @@ mod resolver;
 mod run_fault;
 pub mod serve;
 mod service;
+mod stopping;
 pub mod sync;
 mod sync_part;
 mod sync_reporting;
@@ -34,6 +35,7 @@ mod syncing;
 mod target;
 mod transfer_wire;
 mod turn_limit;
+mod whole_file;
 
 pub use address::Address;
 pub use get::{GetArguments, GetFault, get_file};

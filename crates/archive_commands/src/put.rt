@@ -15,6 +15,8 @@ ghost use Rattle.archive_commands.specs.Labels.{are_several};
 ghost use Rattle.archive_commands.specs.PutRan.{PutRan};
 ghost use Rattle.archive_commands.specs.Faults.{run_fault};
 ghost use Rattle.archive_commands.specs.Lines.{Unless};
+ghost use Rattle.archive_commands.specs.PutSaid.{PutSaid};
+ghost use Rattle.archive_commands.specs.Stopping.{IsFirstStopping};
 
 use crate::address::{Address, locate};
 use crate::arguments::{
@@ -29,6 +31,7 @@ use crate::resolver::Resolver;
 use crate::run_fault::of_run;
 use crate::target::Target;
 use crate::transfer_wire::TransferWire;
+use crate::whole_file::WholeFile;
 use archive_runs::{RunFault, put_in_rounds};
 use clap::{ArgMatches, Command};
 use command_line::{Source, ToolFault, new_command, read_to_end, sources_given};
@@ -100,8 +103,9 @@ pub fn asked(alloc: Global, words: &ArgMatches) -> Result<Option<PutArguments>, 
 
 /// Reads all bytes of an input, which must be the text of a solution file. One is left as soon as it is known to be none, or
 /// longer than a file may be.
-pub(crate) fn read_whole<R: Read>(alloc: Global, input: &mut R) -> Result<Vec<u8>, ToolFault>
-    ensures whole { IfOk result (λ bytes. IsWholeInput (R.remaining input.old) bytes.items) }
+pub(crate) fn read_whole<R: Read>(alloc: Global, input: &mut R) -> Result<WholeFile, ToolFault>
+    ensures whole { IfOk result (λ file. IsWholeInput (R.remaining input.old) file.bytes.items) }
+    ensures first { IfOk result (λ file. IsFirstStopping file.bytes.items file.stopping) }
     ensures end { OnOk result (IsAtEnd (R.remaining input.new)) }
     ensures unreadable { IfErr result (IsReadUp (R.remaining input.old) (R.remaining input.new)) }
     ensures fault { IfErr result (WholeFails (R.remaining input.old)) }
@@ -112,9 +116,13 @@ pub(crate) fn read_whole<R: Read>(alloc: Global, input: &mut R) -> Result<Vec<u8
         Ok(()) => {}
         Err(fault) => return Err(fault),
     }
-    let FileBytes { bytes, reader } = sink;
+    let FileBytes {
+        bytes,
+        reader,
+        stopping,
+    } = sink;
     match reader.finish() {
-        Ok(()) => Ok(bytes),
+        Ok(()) => Ok(WholeFile { bytes, stopping }),
         Err(fault) => Err(ToolFault::of_input(0, fault)),
     }
 }
@@ -157,8 +165,8 @@ pub fn put_file<R: Read, N: TransferWire, W: Write>(
     // Holds also for a writer without ghost contents.
     ensures unwritten { IfErr result (Unless (out.new ≡ out.old)) }
 {
-    let bytes = read_whole(alloc, input)?;
-    match put_shown(wire, server, bytes) {
+    let file = read_whole(alloc, input)?;
+    match put_shown(wire, server, file.bytes) {
         Ok(len) => write_line(alloc, "sent ", len, " bytes", out),
         Err(fault) => Err(of_run(fault)),
     }
@@ -179,7 +187,7 @@ fn not_located<E: Write>(arguments: &PutArguments, errors: &mut E) -> u8
 }
 
 /// Runs `put` over this wire, and returns the status: that of the first fault. Nothing is sent before all files have been
-/// read, and nothing at all if one cannot be.
+/// read, and it was said which of their solutions stop Tile World; and nothing at all if one cannot be read, or that not said.
 pub fn run<S: FileSystem + Resolver, N: TransferWire, R: Read, W: Write, E: Write>(
     system: &S,
     wire: &mut N,
@@ -194,7 +202,7 @@ pub fn run<S: FileSystem + Resolver, N: TransferWire, R: Read, W: Write, E: Writ
     ensures unreadable { result ≡ 3 → out.new ≡ out.old }
     // The same of one file at any other fault than in writing.
     ensures unwritten { are_several arguments.now.sources.items ≡ false → result ≢ 0 → result ≢ 2 → out.new ≡ out.old }
-    ensures silent { result ≡ 0 → errors.new ≡ errors.old }
+    ensures said { result ≡ 0 → PutSaid (S.bytes_of system.now) arguments.now.sources.items (R.remaining input.old) (errors.new ≡ errors.old) (E.contents errors.old) (E.contents errors.new) }
 {
     let target = &arguments.target;
     let Some(host) = locate(system, target.address.as_str()) else {

@@ -1,22 +1,29 @@
-//! Several files are read, and then sent one after the other.
+//! Several files are read, it is said which of their solutions stop Tile World, and they are sent one after the other.
 
-ghost use Rattle.std.specs.Prelude.{◌≡◌, ◌≢◌, ◌≤◌, ◌++◌, false, true, map, OnOk, IfOk, IfErr};
+ghost use Rattle.std.specs.Prelude.{◌≡◌, ◌≢◌, ◌≤◌, [], ◌∷◌, ◌++◌, false, true, map, OnOk, IfOk, IfErr, string_bytes};
 ghost use Rattle.std.specs.Io.KnownBytes.{Appends};
 ghost use Rattle.command_line.specs.Inputs.{has_standard, is_standard};
+ghost use Rattle.command_line.specs.Saying.{Says};
 ghost use Rattle.archive_commands.specs.Labels.{are_several, label_of};
 ghost use Rattle.archive_commands.specs.Lines.{LineFails, Unless, sent_line};
-ghost use Rattle.archive_commands.specs.PutFiles.{AreRead, FailsToRead, HasRead, IsFailedStatus, IsUnread, PutsFiles, PutsText, PutsWhole, SendsEach, SendsOne, status_among};
+ghost use Rattle.archive_commands.specs.PutFiles.{AreRead, FailsToRead, HasRead, IsFailedStatus, IsUnread, NotesStopping, PutsFiles, PutsText, PutsWhole, SendsEach, SendsOne, SendsSaid, status_among};
+ghost use Rattle.archive_commands.specs.PutSaid.{PutSaid};
+ghost use Rattle.archive_commands.specs.Stopping.{IsFirstStopping, stopping_line};
 
 use crate::labels::{are_several, finish_sent, push_label, report_file_fault};
 use crate::line::push_line;
 use crate::put::{PutArguments, put_shown, read_whole};
 use crate::put_better::put_better;
 use crate::run_fault::of_run;
+use crate::stopping::push_stopping;
 use crate::syncing::first_of;
 use crate::transfer_wire::TransferWire;
+use crate::whole_file::WholeFile;
 use byte_output::put;
-use command_line::{DONE, NOT_TRANSFERRED, Source, ToolFault, UNREADABLE, report_file};
-use std::alloc::Global;
+use command_line::{
+    DONE, NOT_TRANSFERRED, Source, ToolFault, UNREADABLE, report, report_file, say,
+};
+use std::alloc::{AllocError, Global};
 use std::io::{Read, Write};
 use system_files::FileSystem;
 use tftp_packet::Endpoint;
@@ -31,8 +38,9 @@ fn read_one<S: FileSystem, R: Read, E: Write>(
     source: &Source,
     input: &mut R,
     errors: &mut E,
-) -> Result<Vec<u8>, u8>
-    ensures read { IfOk result (λ bytes. HasRead (S.bytes_of system.now) source.now bytes.items (R.remaining input.old) (R.remaining input.new)) }
+) -> Result<WholeFile, u8>
+    ensures read { IfOk result (λ file. HasRead (S.bytes_of system.now) source.now file.bytes.items (R.remaining input.old) (R.remaining input.new)) }
+    ensures first { IfOk result (λ file. IsFirstStopping file.bytes.items file.stopping) }
     ensures unread { IfErr result (IsUnread (S.bytes_of system.now) source.now (R.remaining input.old) (R.remaining input.new)) }
     ensures kept { is_standard source.now ≡ false → input.new ≡ input.old }
     ensures failed { IfErr result IsFailedStatus }
@@ -40,12 +48,12 @@ fn read_one<S: FileSystem, R: Read, E: Write>(
 {
     match source {
         Source::Standard => match read_whole(alloc, input) {
-            Ok(bytes) => Ok(bytes),
+            Ok(file) => Ok(file),
             Err(fault) => Err(report_file_fault(fault, several, source, errors)),
         },
         Source::Named(name) => match system.open(name.as_str()) {
-            Ok(mut file) => match read_whole(alloc, &mut file) {
-                Ok(bytes) => Ok(bytes),
+            Ok(mut opened) => match read_whole(alloc, &mut opened) {
+                Ok(file) => Ok(file),
                 Err(fault) => Err(report_file_fault(fault, several, source, errors)),
             },
             Err(cause) => Err(report_file(ToolFault::Read, name.as_str(), &cause, errors)),
@@ -53,15 +61,36 @@ fn read_one<S: FileSystem, R: Read, E: Write>(
     }
 }
 
-// Reads each file whole, in order, or reports why one is not read and returns the status.
+// Adds a file's text, and the line for its first solution that stops Tile World.
+fn push_file(
+    texts: &mut Vec<Vec<u8>>,
+    note: &mut String,
+    several: bool,
+    source: &Source,
+    file: WholeFile,
+) -> Result<(), AllocError>
+    ensures text { OnOk result (texts.new.items ≡ texts.old.items ++ file.bytes ∷ []) }
+    ensures noted { OnOk result (string_bytes note.new ≡ string_bytes note.old ++ stopping_line (label_of several source.now) file.stopping) }
+{
+    let WholeFile { bytes, stopping } = file;
+    push_stopping(note, several, source, stopping)?;
+    texts.push(bytes)?;
+    Ok(())
+}
+
+// Reads each file whole, in order, and notes which of their solutions stop Tile World; or reports why one is not read and returns
+// the status.
 fn read_all<S: FileSystem, R: Read, E: Write>(
     system: &S,
     alloc: Global,
     sources: &[Source],
     input: &mut R,
+    note: &mut String,
     errors: &mut E,
 ) -> Result<Vec<Vec<u8>>, u8>
+    requires { string_bytes note.old ≡ [] }
     ensures read { IfOk result (λ texts. AreRead (S.bytes_of system.now) sources.now (map (λ text. text.items) texts.items) (R.remaining input.old) (R.remaining input.new)) }
+    ensures noted { IfOk result (λ texts. NotesStopping (are_several sources.now) sources.now (map (λ text. text.items) texts.items) (string_bytes note.new)) }
     ensures unread { IfErr result (FailsToRead (S.bytes_of system.now) sources.now (R.remaining input.old) (R.remaining input.new)) }
     ensures kept { has_standard sources.now ≡ false → input.new ≡ input.old }
     ensures failed { IfErr result IsFailedStatus }
@@ -71,9 +100,9 @@ fn read_all<S: FileSystem, R: Read, E: Write>(
     let mut texts = Vec::new(alloc);
     for source in sources {
         match read_one(system, alloc, several, source, input, errors) {
-            Ok(text) => match texts.push(text) {
+            Ok(file) => match push_file(&mut texts, note, several, source, file) {
                 Ok(()) => {}
-                Err(_lost) => {
+                Err(AllocError) => {
                     return Err(report_file_fault(ToolFault::Memory, several, source, errors));
                 }
             },
@@ -222,7 +251,33 @@ fn send_each<N: TransferWire, W: Write, E: Write>(
 
 // ---- the whole
 
-/// Reads all files, and then sends each of them as it is asked; or reports why not. Returns the status.
+// Says what there is to say of the files, and then sends each of them as it is asked; or reports why not. Returns the status.
+fn say_and_send<N: TransferWire, W: Write, E: Write>(
+    wire: &mut N,
+    alloc: Global,
+    arguments: &PutArguments,
+    to: Endpoint,
+    sources: &[Source],
+    texts: Vec<Vec<u8>>,
+    note: &str,
+    out: &mut W,
+    errors: &mut E,
+) -> u8
+    ensures sends { SendsSaid arguments.now.better (are_several sources.now) note.now to sources.now (map (λ text. text.items) texts.items) result (N.calls wire.old) (N.calls wire.new) (W.contents out.old) (W.contents out.new) }
+    ensures usage { result ≢ 1 }
+    ensures few { result ≤ 4 }
+    ensures unreadable { are_several sources.now ≡ true → result ≢ 3 }
+    ensures unwritten { are_several sources.now ≡ false → result ≢ 0 → result ≢ 2 → out.new ≡ out.old }
+    ensures said { result ≡ 0 → Says note.now (errors.new ≡ errors.old) (E.contents errors.old) (E.contents errors.new) }
+{
+    match say(note, errors) {
+        Ok(()) => send_each(wire, alloc, arguments, to, sources, texts, out, errors),
+        Err(fault) => report(fault, &[], errors),
+    }
+}
+
+/// Reads all files, says which of their solutions stop Tile World, and then sends each file as it is asked; or reports why not.
+/// Returns the status.
 pub(crate) fn put_files<S: FileSystem, N: TransferWire, R: Read, W: Write, E: Write>(
     system: &S,
     wire: &mut N,
@@ -239,11 +294,17 @@ pub(crate) fn put_files<S: FileSystem, N: TransferWire, R: Read, W: Write, E: Wr
     ensures few { result ≤ 4 }
     ensures unreadable { are_several arguments.now.sources.items ≡ true → result ≡ 3 → out.new ≡ out.old }
     ensures unwritten { are_several arguments.now.sources.items ≡ false → result ≢ 0 → result ≢ 2 → out.new ≡ out.old }
-    ensures silent { result ≡ 0 → errors.new ≡ errors.old }
+    ensures said { result ≡ 0 → PutSaid (S.bytes_of system.now) arguments.now.sources.items (R.remaining input.old) (errors.new ≡ errors.old) (E.contents errors.old) (E.contents errors.new) }
 {
     let sources = arguments.sources.as_slice();
-    match read_all(system, alloc, sources, input, errors) {
-        Ok(texts) => send_each(wire, alloc, arguments, to, sources, texts, out, errors),
+    let mut note = String::new(alloc);
+    match read_all(system, alloc, sources, input, &mut note, errors) {
+        Ok(texts) => {
+            let note = note.as_str();
+            say_and_send(
+                wire, alloc, arguments, to, sources, texts, note, out, errors,
+            )
+        }
         Err(status) => status,
     }
 }

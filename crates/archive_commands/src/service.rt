@@ -1,8 +1,12 @@
 //! A server at work, over any wire.
 
-ghost use Rattle.std.specs.Prelude.{◌≡◌, ◌<◌, ◌≤◌, ◌+◌, ℕ, Bool, true, false};
+ghost use Rattle.std.specs.Prelude.{◌≡◌, ◌<◌, ◌≤◌, ◌+◌, ℕ, Bool, true, false, Option, Result, option_map, unwrap_or, codes};
 ghost use Rattle.archive_server.specs.Turn.{MakesOne, count_if, fresh_server};
+ghost use Rattle.archive_keepers.specs.declared.replaced.Replaced.{Replaced as Replacement};
+ghost use Rattle.command_line.specs.declared.tool_fault.ToolFault.{ToolFault as Fault};
 ghost use Rattle.command_line.specs.Faults.{answer_status};
+ghost use Rattle.command_line.specs.Printing.{Prints};
+ghost use Rattle.archive_commands.specs.Reports.{ReportsServed, unusable_line};
 ghost use Rattle.archive_commands.specs.Serve.{IsLimitFor, ServeEnds, Served, ServiceRuns, turn_of};
 
 use crate::line::write_line;
@@ -11,7 +15,7 @@ use crate::turn_limit::TurnLimit;
 use archive_keepers::{Replaced, ServedKeeper};
 use archive_server::{Policies, Server, ServerObserver};
 use archive_wire::ReadyWire;
-use command_line::{FAILED, ToolFault, finish};
+use command_line::{FAILED, ToolFault, finish, print_about};
 use std::alloc::Global;
 use std::io::Write;
 use tftp_packet::Endpoint;
@@ -32,12 +36,13 @@ pub struct Service<'a, K: ServedKeeper, O: ServerObserver> {
 // Reports that nothing can be kept any more, since this was replaced or, if nothing was, since it is not known whether a
 // collection was kept, and returns the status.
 fn unusable<E: Write>(replaced: Option<Replaced>, name: &str, errors: &mut E) -> u8
-    ensures { result ≡ 2 }
+    ensures status { result ≡ 2 }
+    ensures printed { Prints (unusable_line replaced name.now) (E.contents errors.old) (E.contents errors.new) }
 {
-    let _ = match replaced {
-        Some(replaced) => writeln!(errors, "tws: {name}: {replaced}"),
-        None => writeln!(errors, "tws: {name}: not known whether kept"),
-    };
+    match replaced {
+        Some(replaced) => print_about(name, replaced, errors),
+        None => print_about(name, "not known whether kept", errors),
+    }
     FAILED
 }
 
@@ -52,6 +57,7 @@ fn end_serving<E: Write>(
     ensures usable { usable ≡ true → result ≡ answer_status done }
     ensures unknown { usable ≡ false → result ≡ 2 }
     ensures silent { result ≡ 0 → errors.new ≡ errors.old }
+    ensures printed { ReportsServed usable done replaced name.now (E.contents errors.old) (E.contents errors.new) }
 {
     let status = finish(done, &[], errors);
     if usable {
@@ -183,13 +189,15 @@ impl<'a, K: ServedKeeper, O: ServerObserver> Service<'a, K, O> {
         requires fresh { self.old.server ≡ fresh_server self.old.server.policies self.old.server.table }
         ensures served { (turns : ℕ) → IsLimitFor turns self.old.limit → Served self.old.server.table.request turns self.old.server.policies self.old.server.table result (K.usable self.new.keeper) (N.calls wire.old) (N.calls wire.new) (K.calls self.old.keeper) (K.calls self.new.keeper) (W.contents out.old) (W.contents out.new) }
         ensures silent { result ≡ 0 → errors.new ≡ errors.old }
+        ensures printed { (done : Result (Unit {0}) Fault) × (replaced : Option Replacement) × ReportsServed (K.usable self.new.keeper) done replaced (unwrap_or (option_map (λ name. name.now) self.old.folder) (codes "memory")) (E.contents errors.old) (E.contents errors.new) }
     {
+        let name = self.folder.unwrap_or("memory");
         let done = self.serve(alloc, wire, out);
         end_serving(
             done,
             self.keeper.is_usable(),
             self.keeper.replaced(),
-            self.folder.unwrap_or("memory"),
+            name,
             errors,
         )
     }

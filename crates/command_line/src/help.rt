@@ -2,6 +2,7 @@
 
 ghost use Rattle.std.specs.Prelude.{◌≡◌, ◌≤◌, OnOk, IfErr};
 ghost use Rattle.command_line.specs.Help.{Explained, HelpFails, NoJobRan, WritesHelp};
+ghost use Rattle.command_line.specs.Printing.{Explains};
 
 use crate::job_fault::JobFault;
 use crate::reporting::{finish, report};
@@ -52,6 +53,7 @@ pub fn report_job_fault<W: Write, E: Write>(
     ensures usage { result ≡ 1 → out.new ≡ out.old }
     ensures few { result ≤ 2 }
     ensures silent { result ≡ 0 → errors.new ≡ errors.old }
+    ensures printed { Explains fault.now (E.contents errors.old) (E.contents errors.new) }
 {
     match fault {
         JobFault::Words(error) => explain(alloc, error, out, errors),

@@ -4,7 +4,8 @@
 //!
 //! Read `specs/Arguments.antt` first: it says what was given for an argument. `specs/CommandLine.antt` says what the
 //! arguments of a program ask for, `specs/Faults.antt` has the exit statuses, `specs/Inputs.antt` what is known of an
-//! input, `specs/Reading.antt` what reading one did, and `specs/Help.antt` what a run did that was asked for no job.
+//! input, `specs/Reading.antt` what reading one did, `specs/Saying.antt` what a command says, `specs/Printing.antt` what is
+//! printed of a fault, and `specs/Help.antt` what a run did that was asked for no job.
 #![tactic(auto)]
 
 mod arguments;
@@ -15,12 +16,15 @@ mod job_fault;
 mod laws;
 mod limits;
 mod opening;
+mod printing;
 mod program;
 mod reporting;
+mod saying;
 mod source;
 mod status;
 mod streams;
 mod tool_fault;
+mod unreadable;
 mod version;
 
 pub use arguments::{
@@ -34,8 +38,10 @@ pub use job_fault::JobFault;
 pub use laws::limit_values;
 pub use limits::{INPUT_PIECE, INPUT_READS};
 pub use opening::open_named;
+pub use printing::{print_about, print_words};
 pub use program::{add_command, found_in, new_program, unknown_command};
 pub use reporting::{finish, report, report_arguments, report_cause, report_file};
+pub use saying::say;
 pub use source::Source;
 pub use status::{DONE, FAILED, NOT_TRANSFERRED, UNREADABLE, USAGE};
 pub use streams::report_streams;

@@ -1,6 +1,7 @@
 //! The report of a standard stream that failed.
 
 ghost use Rattle.std.specs.Prelude.{◌≡◌, ◌≢◌};
+ghost use Rattle.command_line.specs.Printing.{ReportsStreams};
 
 use crate::reporting::report_cause;
 use crate::status::FAILED;
@@ -17,6 +18,7 @@ pub fn report_streams<R, W, E: Write>(
 ) -> u8
     ensures status { result ≡ status }
     ensures silent { status ≢ 2 → errors.new ≡ errors.old }
+    ensures printed { status ≡ 2 → ReportsStreams out.now.error input.now.error (E.contents errors.old) (E.contents errors.new) }
 {
     if status != FAILED {
         return status;

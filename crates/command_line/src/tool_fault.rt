@@ -1,39 +1,35 @@
 //! Why a command failed.
 
-ghost use Rattle.std.specs.Prelude.{◌≡◌};
+ghost use Rattle.std.specs.Prelude.{◌≡◌, Some};
 ghost use Rattle.command_line.specs.Faults.{written_fault, input_fault, status_of};
+ghost use Rattle.command_line.specs.Printing.{fault_text};
 ghost use Rattle.command_line.specs.declared.tool_fault.ToolFault.TheVariants.{Memory};
 
 use crate::status::{FAILED, NOT_TRANSFERRED, UNREADABLE};
+use crate::unreadable::Unreadable as UnreadableInput;
 use std::alloc::{AllocError, AllocFailed};
+use std::fmt;
 use tftp_packet::Cause;
-use thiserror::Error;
 use tws_file::{FileFault, OutFault};
 
 /// Why a command failed.
-#[derive(Clone, Copy, Debug, PartialEq, Eq, Error)]
+#[derive(Clone, Copy, Debug, PartialEq, Eq)]
 pub enum ToolFault {
     /// A reader failed, or did not end.
-    #[error("read fault")]
     Read,
     /// The writer failed.
-    #[error("write fault")]
     Write,
     /// An input is not a solution file.
-    #[error("input {index}: unreadable: {fault}")]
     Unreadable {
         /// Which input, counted from 0.
         index: usize,
         fault: FileFault,
     },
     /// Out of memory.
-    #[error("out of memory")]
     Memory,
     /// A port could not be opened.
-    #[error("socket fault")]
     Socket,
     /// A transfer failed.
-    #[error("transfer failed: {0}")]
     Transfer(Cause),
 }
 
@@ -57,6 +53,28 @@ impl ToolFault {
             ToolFault::Read | ToolFault::Write | ToolFault::Memory | ToolFault::Socket => FAILED,
             ToolFault::Unreadable { .. } => UNREADABLE,
             ToolFault::Transfer(_) => NOT_TRANSFERRED,
+        }
+    }
+}
+
+impl fmt::Display for ToolFault {
+    ghost output = { λ fault. Some (fault_text fault) };
+
+    fn fmt<W: fmt::Write>(&self, f: &mut fmt::Formatter<W>) -> fmt::Result {
+        match *self {
+            ToolFault::Read => write!(f, "read fault"),
+            ToolFault::Write => write!(f, "write fault"),
+            ToolFault::Unreadable { index, fault } => {
+                write!(f, "input {index}: {}", UnreadableInput(fault))
+            }
+            ToolFault::Memory => write!(f, "out of memory"),
+            ToolFault::Socket => write!(f, "socket fault"),
+            ToolFault::Transfer(Cause::Refused(code)) => {
+                write!(f, "transfer failed: refused {code}")
+            }
+            ToolFault::Transfer(Cause::TimedOut) => write!(f, "transfer failed: timed out"),
+            ToolFault::Transfer(Cause::TooLong) => write!(f, "transfer failed: too long"),
+            ToolFault::Transfer(Cause::Memory) => write!(f, "transfer failed: out of memory"),
         }
     }
 }

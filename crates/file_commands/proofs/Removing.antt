@@ -6,7 +6,8 @@ use Rattle.std.proofs.lemmas.List.Sums.{length-filter}
 use Rattle.tws_file.specs.declared.key.Key.{Key}
 use Rattle.tws_file.specs.Text.{File, IsText, Record, text_of}
 use Rattle.tws_compare.specs.Without.{file_without, records_without, solves, text_without}
-use Rattle.show_commands.specs.Saying.{Says, SaysOf}
+use Rattle.command_line.specs.Saying.{Says}
+use Rattle.show_commands.specs.Saying.{SaysOf}
 use Rattle.file_commands.specs.Notes.{unless}
 use Rattle.file_commands.specs.Without.{count_note, no_solution, removal_note}
 

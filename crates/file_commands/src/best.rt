@@ -18,10 +18,11 @@ use crate::best_files::{BestFiles, find_files};
 use crate::notes::Notes;
 use clap::{Arg, ArgMatches, Command};
 use command_line::{
-    Source, ToolFault, new_command, ruleset_argument, ruleset_given, sources_given, string_given,
+    Source, ToolFault, new_command, ruleset_argument, ruleset_given, say, sources_given,
+    string_given,
 };
 use show_commands::{
-    SeveralInputsCommand, files_argument, output_argument, read_input, run_several_inputs, say,
+    SeveralInputsCommand, files_argument, output_argument, read_input, run_several_inputs,
 };
 use std::alloc::{AllocError, Global};
 use std::io::{Read, Write};

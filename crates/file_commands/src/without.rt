@@ -10,15 +10,17 @@ ghost use Rattle.command_line.specs.Arguments.{Answers};
 ghost use Rattle.file_commands.specs.Notes.{IsSayFault, unless};
 ghost use Rattle.file_commands.specs.Without.{AsksForWithout, IsLevel, IsLevelNumber, WithoutRan, WithoutSaid, level_rule, no_solution, password_rule, removal_note, removing_app, without_app};
 ghost use Rattle.command_line.specs.Faults.{IsReadOut};
-ghost use Rattle.show_commands.specs.Saying.{Says, SaysOf};
+ghost use Rattle.command_line.specs.Saying.{Says};
+ghost use Rattle.show_commands.specs.Saying.{SaysOf};
 ghost use Rattle.show_commands.specs.Written.{Writes, WriteFails};
 
 use clap::builder::ValueParser;
 use clap::{Arg, ArgMatches, Command};
 use command_line::{
-    Source, ToolFault, USAGE, new_command, source_argument, source_given, string_given, text_given,
+    Source, ToolFault, USAGE, new_command, say, source_argument, source_given, string_given,
+    text_given,
 };
-use show_commands::{OneInputCommand, output_argument, read_input, run_one_input, say};
+use show_commands::{OneInputCommand, output_argument, read_input, run_one_input};
 use std::alloc::{AllocError, Global};
 use std::io::{Read, Write};
 use system_files::FileSystem;

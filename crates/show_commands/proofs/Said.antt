@@ -7,7 +7,8 @@ use Rattle.command_line.specs.declared.tool_fault.ToolFault.{ToolFault}
 use Rattle.command_line.specs.Faults.{answer_status}
 use Rattle.command_line.proofs.Statuses.{at_zero}
 use Rattle.show_commands.specs.Knowing.{files_less}
-use Rattle.show_commands.specs.Saying.{Says, SaysOf, SaysOfFiles}
+use Rattle.command_line.specs.Saying.{Says}
+use Rattle.show_commands.specs.Saying.{SaysOf, SaysOfFiles}
 use Rattle.show_commands.specs.SeveralInputs.{AreLessKnown}
 use Rattle.show_commands.specs.Written.{Writes}
 

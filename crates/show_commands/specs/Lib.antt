@@ -6,4 +6,5 @@ pub mod Output
 pub mod Show
 pub mod Knowing
 pub mod Pack
+pub mod Reporting
 pub mod ShowJobs

@@ -6,7 +6,7 @@
 //! does that, beside a function over any reader and writer, such as `run_show`. The list is in `show_job.rt`;
 //! `show_files.rt` has `show` of several files. For every command on files, `input.rt` reads a solution file to the end of
 //! an input, and `inputs.rt` several; `one_input.rt` runs a command of one input, and `several_inputs.rt` one of several;
-//! `saying.rt` writes what a command says of them (`specs/Saying.antt`); and `output.rt` puts its text into a file.
+//! `specs/Saying.antt` has what a command says of them; and `output.rt` puts its text into a file.
 #![tactic(auto)]
 
 mod announced_input;
@@ -22,7 +22,6 @@ pub mod pack;
 mod program;
 mod reader_sink;
 mod reporting;
-mod saying;
 mod several_inputs;
 pub mod show;
 mod show_files;
@@ -37,7 +36,6 @@ pub use one_input::{OneInputCommand, run_one_input};
 pub use output::{output_argument, output_name, refuse_terminal, save};
 pub use pack::{PackArguments, run_pack};
 pub use program::run_show_words;
-pub use saying::say;
 pub use several_inputs::{SeveralInputsCommand, run_several_inputs};
 pub use show::{ShowArguments, run_csv, run_show};
 pub use show_job::{ShowJob, run_show_job, show_job_of, show_program};

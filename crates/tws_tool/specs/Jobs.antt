@@ -12,6 +12,7 @@ use Rattle.file_commands.specs.FileJobs.{AsksForFileJob, FileJobRuns, FileJobSai
 use Rattle.archive_commands.specs.Serve.{AsksToServe, ServeRan, serve_app, serve_name}
 use Rattle.archive_commands.specs.Put.{AsksToPut, put_app, put_name}
 use Rattle.archive_commands.specs.PutRan.{PutRan}
+use Rattle.archive_commands.specs.PutSaid.{PutSaid}
 use Rattle.archive_commands.specs.Get.{AsksToGet, GetRan, get_app, get_name}
 use Rattle.archive_commands.specs.Sync.{AsksToSync, SyncRan, sync_app, sync_name}
 use Rattle.archive_commands.specs.Known.{Known}
@@ -46,7 +47,7 @@ JobRuns to_terminal known now Unread Unwritten first (Err why) status had left o
 abbrev pub JobSaid : (known : Known) → (given : Option (List ℕ)) → (Silent : Type 0) → Result Job JobFault → (old new : Option (List ℕ)) → Type 0
 JobSaid known given Silent (Ok (job.Files files)) old new = FileJobSaid known.below_of known.bytes_of given Silent files old new
 JobSaid known given Silent (Ok (job.Serve arguments)) old new = Silent
-JobSaid known given Silent (Ok (job.Put arguments)) old new = Silent
+JobSaid known given Silent (Ok (job.Put arguments)) old new = PutSaid known.bytes_of arguments.sources.items given Silent old new
 JobSaid known given Silent (Ok (job.Get arguments)) old new = Silent
 JobSaid known given Silent (Ok (job.Sync arguments)) old new = Silent
 JobSaid known given Silent (Err why) old new = Silent

@@ -1,3 +1,4 @@
 pub mod Jobs
+pub mod Refusals
 pub mod CommandLine
 pub mod Visible

@@ -1,6 +1,10 @@
 //! The wire of a client over the system's ports.
 
-ghost use Rattle.std.specs.Prelude.{◌≡◌};
+ghost use Rattle.std.specs.Prelude.{◌≡◌, ◌≤◌, [], ◌∷◌, length, take, OnErr, IfOk, IfErr, IfSome};
+ghost use Rattle.byte_output.specs.Failures.{Rises};
+ghost use Rattle.tftp_packet.specs.Decode.{decode_bytes};
+ghost use Rattle.archive_wire.specs.Wire.{Grows, received};
+ghost use Rattle.tws_tool.specs.Refusals.{heard, refusal_after};
 
 use archive_commands::{Reached, TransferWire};
 use archive_host::UdpWire;
@@ -40,13 +44,38 @@ impl<P: Net + Clock + RandomSource + AllocGlobal + Copy> RefusalWire<P> {
     }
 }
 
+// What a text begins with, as much as is kept.
+fn beginning(text: &[u8]) -> &[u8]
+    ensures bytes { result.now ≡ take REFUSAL text.now }
+    ensures few { length result.now ≤ REFUSAL }
+{
+    if text.len() <= REFUSAL {
+        return text;
+    }
+    &text[..REFUSAL]
+}
+
+// Keeps what a text begins with, in place of what was kept.
+fn keep(refusal: &mut ArrayVec<u8, REFUSAL>, text: &[u8])
+    ensures { refusal.new.items ≡ take REFUSAL text.now }
+{
+    refusal.clear();
+    let Ok(()) = refusal.try_extend_from_slice(beginning(text)) else {
+        unreachable!();
+    };
+}
+
 // Notes the text of an ERROR, if these bytes are one.
-fn note(refusal: &mut ArrayVec<u8, REFUSAL>, bytes: &[u8]) {
-    if let Ok(Packet::Error { text, .. }) = decode(bytes) {
-        refusal.clear();
-        for byte in text.iter().take(REFUSAL) {
-            let _ = refusal.try_push(*byte);
-        }
+fn note(refusal: &mut ArrayVec<u8, REFUSAL>, bytes: &[u8])
+    ensures { refusal.new.items ≡ refusal_after refusal.old.items (decode_bytes bytes.now) }
+{
+    match decode(bytes) {
+        Ok(Packet::Read { .. }) => {}
+        Ok(Packet::Write { .. }) => {}
+        Ok(Packet::Data { .. }) => {}
+        Ok(Packet::Ack { .. }) => {}
+        Ok(Packet::Error { text, .. }) => keep(refusal, text),
+        Err(_) => {}
     }
 }
 
@@ -79,12 +108,21 @@ impl<P: Net + Clock + RandomSource + AllocGlobal + Copy> Wire for RefusalWire<P>
         &mut self,
         port: u16,
         buffer: &mut [u8; RECEIVE_SIZE],
-    ) -> Result<Option<(usize, Endpoint)>, WireFault> {
-        let got = self.wire.receive(port, buffer);
-        if let Ok(Some((count, _))) = &got {
-            note(&mut self.refusal, &buffer[..*count]);
+    ) -> Result<Option<(usize, Endpoint)>, WireFault>
+        ensures calls { Grows (⟦<UdpWire<P> as Wire>⟧.calls self.old.wire) (⟦<UdpWire<P> as Wire>⟧.calls self.new.wire) (received port result buffer.new ∷ []) }
+        ensures count { IfOk result (λ got. IfSome got (λ g. g.0 ≤ RECEIVE_SIZE)) }
+        ensures fault { IfErr result (λ e. e ≡ WireFault.Receive) }
+        ensures failed { OnErr result (Rises (⟦<UdpWire<P> as Wire>⟧.failed self.old.wire) (⟦<UdpWire<P> as Wire>⟧.failed self.new.wire)) }
+        ensures heard { self.new.refusal.items ≡ heard self.old.refusal.items result buffer.new }
+    {
+        match self.wire.receive(port, buffer) {
+            Ok(Some((count, peer))) => {
+                note(&mut self.refusal, &buffer[..count]);
+                Ok(Some((count, peer)))
+            }
+            Ok(None) => Ok(None),
+            Err(fault) => Err(fault),
         }
-        got
     }
 
     fn send(&mut self, out: &Out) -> Result<(), WireFault> {
@@ -109,6 +147,10 @@ impl<P: Net + Clock + RandomSource + AllocGlobal + Copy> ReadyWire for RefusalWi
 }
 
 impl<P: Net + Clock + RandomSource + AllocGlobal + Copy> TransferWire for RefusalWire<P> {
+    ghost refusal_of = { λ w. w.refusal.items };
+
+    ghost reached_of = { λ w. w.reached };
+
     fn refusal(&self) -> &[u8] {
         self.refusal.as_slice()
     }

@@ -1,4 +1,5 @@
 use Rattle.std.proofs.Common.{refl, ◌≡◌, ◌∙◌, ◌++◌, List, ℕ, ap, length, arith}
+use Rattle.archive_commands.proofs.Stoppers.{first_pushed}
 use Rattle.archive_commands.proofs.Taking.{refused_push, sound_bytes}
 use Rattle.archive_commands.proofs.file_bytes.FileBytesInputSink.take.Goals as goal
 
@@ -25,5 +26,6 @@ returns-clause-taken c = λ bytes taken.
       short = omega (arith, c.if-len-gt-MAX_FILE.false, c.len.ensures, ap length kept);
       records = _;
       read = read;
+      first = first_pushed taken.records _ _ c.args.self.now.stopping c.first_stopping-self.result taken.first c.as_slice.ensures c.first_stopping-self.ensures;
       sound = sound_bytes c.push.new.self _ (bytes ++ piece) c.in-Ok.ensures.going read;
     }

@@ -1,10 +1,10 @@
 //! What a command says on standard error of what it did.
 
-ghost use Rattle.std.specs.Prelude.{◌≡◌, OnOk, IfErr, string_bytes};
-ghost use Rattle.show_commands.specs.Saying.{Says};
+ghost use Rattle.std.specs.Prelude.{◌≡◌, ◌≢◌, [], OnOk, OnErr, IfErr};
+ghost use Rattle.command_line.specs.Saying.{Says};
 
+use crate::tool_fault::ToolFault;
 use byte_output::put;
-use command_line::ToolFault;
 use std::io::Write;
 
 /// Writes what a command says of what it did; if that is empty, the writer is left alone.
@@ -15,6 +15,7 @@ use std::io::Write;
 pub fn say<E: Write>(text: &str, errors: &mut E) -> Result<(), ToolFault>
     ensures said { OnOk result (Says text.now (errors.new ≡ errors.old) (E.contents errors.old) (E.contents errors.new)) }
     ensures fails { IfErr result (λ e. e ≡ ToolFault.Write) }
+    ensures some { OnErr result (text.now ≢ []) }
 {
     if text.is_empty() {
         return Ok(());

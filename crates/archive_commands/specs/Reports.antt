@@ -1,0 +1,139 @@
+-- What the commands of the archive print on standard error of a fault.
+use Rattle.std.specs.Prelude.{◌≡◌, ◌⊎◌, ℕ, Bool, true, false, List, [], ◌∷◌, ◌++◌, Option, Some, None, Result, Ok, Err, string_bytes, codes, decimal}
+use Rattle.std.specs.Int.{to_be_bytes, w32}
+use Rattle.std.specs.Net.Text.{ipv4_text}
+use Rattle.clap.specs.Words.{Text}
+use Rattle.byte_output.specs.Printable.{shown}
+use Rattle.tws_file.specs.declared.file_fault.FileFault.TheVariants as file
+use Rattle.tws_file.specs.declared.«ruleset».Ruleset.{Ruleset}
+use Rattle.tftp_packet.specs.declared.endpoint.Endpoint.{Endpoint}
+use Rattle.tftp_packet.specs.declared.cause.Cause.TheVariants as cause
+use Rattle.command_line.specs.declared.source.Source.{Source}
+use Rattle.command_line.specs.declared.source.Source.TheVariants.{Standard, Named}
+use Rattle.command_line.specs.declared.tool_fault.ToolFault.{ToolFault}
+use Rattle.command_line.specs.declared.tool_fault.ToolFault.TheVariants.{Read, Write, Unreadable, Memory, Socket, Transfer}
+use Rattle.command_line.specs.Faults.{status_of}
+use Rattle.command_line.specs.Printing.{Printed, Prints, PrintsCause, Reports, ReportsFile, fault_text, line_about, plain_line, report_lines}
+use Rattle.archive_keepers.specs.declared.replaced.Replaced.{Replaced}
+use Rattle.archive_keepers.specs.Replaced.{replaced_text}
+use Rattle.archive_commands.specs.declared.reached.Reached.{Reached}
+use Rattle.archive_commands.specs.Address.{address_hint}
+
+-- ---- an address that cannot be used
+
+abbrev pub bad_address_lines : (address reason : Text) → List (List ℕ)
+bad_address_lines address reason = plain_line (codes "bad address") ∷ line_about address (reason ++ address_hint address) ∷ []
+
+abbrev pub no_host_reason : Text
+no_host_reason = codes "neither an IPv4 address nor a host that can be found"
+
+abbrev pub swapped_reason : Text
+swapped_reason = codes "neither an IPv4 address nor a host that can be found; ADDRESS comes before FILE"
+
+-- ---- what else is known of a transfer that failed
+
+abbrev pub server_says : Text
+server_says = codes "the server says"
+
+-- what the server said, if that is known
+abbrev pub refusal_lines : (refusal : List ℕ) → List (List ℕ)
+refusal_lines [] = []
+refusal_lines (byte ∷ bytes) = line_about server_says (shown (byte ∷ bytes)) ∷ []
+
+-- no answer came from the host with these bytes
+abbrev pub unanswered_line : (host : List ℕ) → (port : ℕ) → List ℕ
+unanswered_line host port = plain_line (codes "no answer from " ++ (ipv4_text host ++ (codes " port " ++ (decimal port ++ codes ": does the archive run there, and may its answers come in?"))))
+
+abbrev pub no_answer_line : Endpoint → List ℕ
+no_answer_line server = unanswered_line (to_be_bytes w32 server.host) server.port
+
+abbrev pub stopped_line : (block : ℕ) → (blocks : Option ℕ) → List ℕ
+stopped_line block (Some blocks) = plain_line (codes "answers stopped after block " ++ (decimal block ++ (codes " of " ++ (decimal blocks ++ codes ": try again"))))
+stopped_line block None = plain_line (codes "answers stopped after block " ++ (decimal block ++ codes ": try again"))
+
+abbrev pub reached_line : (answered : Bool) → Endpoint → (block : ℕ) → (blocks : Option ℕ) → List ℕ
+reached_line true server block blocks = stopped_line block blocks
+reached_line false server block blocks = no_answer_line server
+
+-- where it stopped, if that is known
+abbrev pub reached_lines : Option Reached → List (List ℕ)
+reached_lines None = []
+reached_lines (Some r) = reached_line r.answered r.server r.block r.blocks ∷ []
+
+-- What is printed after a fault, by the text of the last ERROR and by how far the last transfer came: what the server said only
+-- if it refused, where the transfer stopped only if it timed out, and for a port what the system said, if that is known.
+abbrev pub PrintsMore : ToolFault → (refusal : List ℕ) → (reached : Option Reached) → (old new : Option (List ℕ)) → Type 0
+PrintsMore Read refusal reached old new = new ≡ old
+PrintsMore Write refusal reached old new = new ≡ old
+PrintsMore (Unreadable index fault) refusal reached old new = new ≡ old
+PrintsMore Memory refusal reached old new = new ≡ old
+PrintsMore Socket refusal reached old new = (new ≡ old) ⊎ PrintsCause (codes "no port") old new
+PrintsMore (Transfer (cause.Refused code)) refusal reached old new = Printed (refusal_lines refusal) old new
+PrintsMore (Transfer cause.TimedOut) refusal reached old new = Printed (reached_lines reached) old new
+PrintsMore (Transfer cause.TooLong) refusal reached old new = new ≡ old
+PrintsMore (Transfer cause.Memory) refusal reached old new = new ≡ old
+
+-- the lines of a fault, and what is printed after them
+abbrev pub ReportsTransfer : (lines : List (List ℕ)) → ToolFault → (refusal : List ℕ) → (reached : Option Reached) → (old new : Option (List ℕ)) → Type 0
+ReportsTransfer lines fault refusal reached old new = (mid : Option (List ℕ)) × Printed lines old mid × PrintsMore fault refusal reached mid new
+
+-- ---- what was fetched
+
+-- the server at this address sent a file of the ruleset with this code, which is the other one
+abbrev pub other_lines : (address : Text) → (code : ℕ) → List (List ℕ)
+other_lines address code =
+    line_about address (codes "unreadable: BadRuleset(" ++ (decimal code ++ codes ")")) ∷ line_about address (codes "byte 4 is " ++ (decimal code ++ codes ", the code of the other ruleset")) ∷ []
+
+-- why no collection was fetched from the server at this address; what was sent is at fault if it is unreadable
+abbrev pub ReportsReceived : ToolFault → (address : Text) → (refusal : List ℕ) → (reached : Option Reached) → (old new : Option (List ℕ)) → Type 0
+ReportsReceived fault address refusal reached old new =
+    ReportsTransfer (report_lines fault (address ∷ [])) fault refusal reached old new ⊎ ((index code : ℕ) × (fault ≡ Unreadable index (file.BadRuleset code)) × Printed (other_lines address code) old new)
+
+-- the same, or why the file of this name was not written, if the system said that
+abbrev pub ReportsGet : {C : Type 0} → (cause : Option C) → ToolFault → (file address : Text) → (refusal : List ℕ) → (reached : Option Reached) → (old new : Option (List ℕ)) → Type 0
+ReportsGet (Some said) fault file address refusal reached old new = ReportsFile fault file old new
+ReportsGet None fault file address refusal reached old new = ReportsReceived fault address refusal reached old new
+
+-- what `get` reported with this status, for this address and this file
+abbrev pub GetReports : (address file : Text) → (status : ℕ) → (refusal : List ℕ) → (reached : Option Reached) → (old new : Option (List ℕ)) → Type 0
+GetReports address file status refusal reached old new =
+    ((status ≡ 1) × Printed (bad_address_lines address no_host_reason) old new)
+    ⊎ ((fault : ToolFault) × (status ≡ status_of fault) × (ReportsFile fault file old new ⊎ ReportsReceived fault address refusal reached old new))
+
+-- ---- a file that was to be sent
+
+-- as its report names it: standard input has no name
+abbrev pub names_of : Source → List Text
+names_of Standard = []
+names_of (Named name) = string_bytes name ∷ []
+
+abbrev pub name_of : Source → Text
+name_of Standard = codes "standard input"
+name_of (Named name) = string_bytes name
+
+-- the lines of its fault; one of several is named
+abbrev pub file_fault_lines : (several : Bool) → Source → ToolFault → List (List ℕ)
+file_fault_lines false source fault = report_lines fault (names_of source)
+file_fault_lines true source Read = line_about (name_of source) (fault_text Read) ∷ []
+file_fault_lines true source Write = line_about (name_of source) (fault_text Write) ∷ []
+file_fault_lines true source (Unreadable index fault) = report_lines (Unreadable index fault) (names_of source)
+file_fault_lines true source Memory = line_about (name_of source) (fault_text Memory) ∷ []
+file_fault_lines true source Socket = line_about (name_of source) (fault_text Socket) ∷ []
+file_fault_lines true source (Transfer why) = line_about (name_of source) (fault_text (Transfer why)) ∷ []
+
+-- that was printed, with what else is known; if it was sent, nothing was
+abbrev pub ReportsSent : (several : Bool) → Source → Result (Unit {0}) ToolFault → (refusal : List ℕ) → (reached : Option Reached) → (old new : Option (List ℕ)) → Type 0
+ReportsSent several source (Ok done) refusal reached old new = new ≡ old
+ReportsSent several source (Err fault) refusal reached old new = ReportsTransfer (file_fault_lines several source fault) fault refusal reached old new
+
+-- ---- a server that ended
+
+-- its keeper, of the folder of this name, is not usable any more: what was replaced, if anything was
+abbrev pub unusable_line : Option Replaced → (name : Text) → List ℕ
+unusable_line (Some replaced) name = line_about name (replaced_text replaced)
+unusable_line None name = line_about name (codes "not known whether kept")
+
+-- why it failed, if it did, and that, unless its keeper is usable
+abbrev pub ReportsServed : (usable : Bool) → Result (Unit {0}) ToolFault → Option Replaced → (name : Text) → (old new : Option (List ℕ)) → Type 0
+ReportsServed true done replaced name old new = Reports [] done old new
+ReportsServed false done replaced name old new = (mid : Option (List ℕ)) × Reports [] done old mid × Prints (unusable_line replaced name) mid new

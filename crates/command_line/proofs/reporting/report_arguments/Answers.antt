@@ -1,5 +1,0 @@
-use Rattle.std.proofs.Common.{rules}
-use Rattle.command_line.proofs.reporting.report_arguments.Goals as goal
-
-pub returns : goal.returns
-returns g c = search rules
