@@ -1,7 +1,6 @@
 //! A file that is opened by its name.
 
 ghost use Rattle.std.specs.Prelude.{◌≡◌, OnOk, OnErr, IfOk, IfErr};
-ghost use Rattle.command_line.specs.declared.tool_fault.ToolFault.TheVariants.{Read};
 ghost use Rattle.command_line.specs.Printing.{ReportsFile};
 ghost use Rattle.system_files.specs.Files.{CanOpen, CannotOpen};
 
@@ -21,7 +20,7 @@ pub fn open_named<S: FileSystem, E: Write>(
     ensures can { OnOk result (CanOpen (S.opens_of system.now name.now)) }
     ensures cannot { IfErr result (λ status. (status ≡ 2) × CannotOpen (S.opens_of system.now name.now)) }
     ensures silent { OnOk result (errors.new ≡ errors.old) }
-    ensures printed { OnErr result (ReportsFile Read name.now (E.contents errors.old) (E.contents errors.new)) }
+    ensures printed { OnErr result (ReportsFile ToolFault.Read name.now (E.contents errors.old) (E.contents errors.new)) }
 {
     match system.open(name) {
         Ok(file) => Ok(file),

@@ -18,6 +18,8 @@ use Rattle.command_line.specs.Arguments.{HasFlag}
 use Rattle.command_line.specs.Saying.{Says}
 use Rattle.file_commands.specs.Notes.{sets_note}
 use Rattle.command_line.specs.Faults.{status_of}
+use Rattle.command_line.specs.Printing.{ReportsFile}
+use Rattle.system_files.specs.Files.{CanOpen, CannotOpen}
 use Rattle.command_line.specs.Inputs.{IsUnreadable}
 
 abbrev pub compare_name : Text
@@ -116,6 +118,16 @@ pub record ComparesInputs (better : Bool) (mine theirs : Option (List ℕ)) (sta
 -- What it did, by the exit status, given what is known of the bytes of the file with each name.
 abbrev pub CompareRan : (bytes_of : List ℕ → Option (List ℕ)) → CompareArguments → (status : ℕ) → (old new : Option (List ℕ)) → Type 0
 CompareRan bytes_of arguments status old new = ComparesInputs arguments.better (bytes_of (string_bytes arguments.mine)) (bytes_of (string_bytes arguments.theirs)) status old new
+
+-- both files can be opened, as far as that is known
+abbrev pub CanOpenBoth : (opens_of : List ℕ → Option Bool) → CompareArguments → Type 0
+CanOpenBoth opens_of arguments = CanOpen (opens_of (string_bytes arguments.mine)) × CanOpen (opens_of (string_bytes arguments.theirs))
+
+-- the first of the two files that cannot be opened was reported by its name
+abbrev pub ReportsUnopened : (opens_of : List ℕ → Option Bool) → CompareArguments → (old new : Option (List ℕ)) → Type 0
+ReportsUnopened opens_of arguments old new =
+    (CannotOpen (opens_of (string_bytes arguments.mine)) × ReportsFile Read (string_bytes arguments.mine) old new)
+    ⊎ (CanOpen (opens_of (string_bytes arguments.mine)) × CannotOpen (opens_of (string_bytes arguments.theirs)) × ReportsFile Read (string_bytes arguments.theirs) old new)
 
 -- ---- what it said
 

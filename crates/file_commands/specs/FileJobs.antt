@@ -30,7 +30,8 @@ AsksForFileJob command (job.Page arguments) = (command.0 ≡ page_name) × AsksF
 
 -- What a job did to the writer of its text, by its exit status: 0 if all was done, 1 for a usage error, 2 if reading, writing
 -- or memory failed, 3 for an unreadable solution file. Given are what is known of the files below each folder, and of the bytes
--- of the file with each name, and what holds if standard input was not read; then what standard input had and has left, and the output before and after.
+-- of the file with each name, and what holds if standard input was not read; then what standard input had and has left, and the
+-- output before and after.
 abbrev pub FileJobRan : (below_of : List ℕ → Option (Option (List (List ℕ)))) → (bytes_of : List ℕ → Option (List ℕ)) → (Unread : Type 0) → FileJob → (status : ℕ) → (had left old new : Option (List ℕ)) → Type 0
 FileJobRan below_of bytes_of Unread (job.Show arguments) status had left old new = ShowRan bytes_of Unread arguments status had left old new
 FileJobRan below_of bytes_of Unread (job.Pack arguments) status had left old new = PackRan bytes_of Unread arguments status had left old new
@@ -63,8 +64,8 @@ abbrev pub FileJobRuns : (to_terminal : Bool) → (below_of : List ℕ → Optio
 FileJobRuns to_terminal below_of bytes_of drafted_of now Unread Unwritten job status had left old new =
     WritesTo (output_of job) (spills to_terminal job) (λ s o n. FileJobRan below_of bytes_of Unread job s had left o n) Unread Unwritten status drafted_of bytes_of now old new
 
--- What a job said on standard error at status 0, given what is known of the bytes of the file with each name and of standard
--- input, and what holds if it said nothing: what standard error had before, and has.
+-- What a job said on standard error at status 0, given what is known of the files below each folder, of the bytes of the file
+-- with each name, and of standard input, and what holds if it said nothing: what standard error had before, and has.
 abbrev pub FileJobSaid : (below_of : List ℕ → Option (Option (List (List ℕ)))) → (bytes_of : List ℕ → Option (List ℕ)) → (given : Option (List ℕ)) → (Silent : Type 0) → FileJob → (old new : Option (List ℕ)) → Type 0
 FileJobSaid below_of bytes_of given Silent (job.Show arguments) old new = Silent
 FileJobSaid below_of bytes_of given Silent (job.Pack arguments) old new = Silent

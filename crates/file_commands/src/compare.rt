@@ -1,12 +1,12 @@
 //! The command `compare`: two solution files compared, or what is better in the first.
 
-ghost use Rattle.std.specs.Prelude.{◌≡◌, ◌≢◌, ◌≤◌, true, false, Ok, OnOk, IfOk, IfErr};
+ghost use Rattle.std.specs.Prelude.{◌≡◌, ◌≢◌, ◌≤◌, true, false, Ok, OnOk, IfOk, IfErr, string_bytes};
 ghost use Rattle.std.specs.Io.KnownBytes.{IsAtEnd};
 ghost use Rattle.clap.specs.Matches.{found_of};
 ghost use Rattle.clap.specs.Words.{app_of, rows_of, rule_of};
 ghost use Rattle.clap.specs.declared.builder.command.Command.TheViews.{out-Command};
 ghost use Rattle.command_line.specs.Arguments.{Answers};
-ghost use Rattle.file_commands.specs.Compare.{AsksToCompare, CompareFails, CompareRan, CompareSaid, Compares, ComparesFiles, FilesFail, SaysOfTwo, better_rule, compare_app, compare_note, compare_status, compared_app, mine_rule, theirs_rule};
+ghost use Rattle.file_commands.specs.Compare.{AsksToCompare, CanOpenBoth, CompareFails, CompareRan, CompareSaid, Compares, ComparesFiles, FilesFail, ReportsUnopened, SaysOfTwo, better_rule, compare_app, compare_note, compare_status, compared_app, mine_rule, theirs_rule};
 ghost use Rattle.command_line.specs.Faults.{status_of};
 ghost use Rattle.command_line.specs.Saying.{Says};
 ghost use Rattle.file_commands.specs.Notes.{IsSayFault};
@@ -270,6 +270,28 @@ fn end<E: Write>(done: Result<bool, ToolFault>, arguments: &CompareArguments, er
     }
 }
 
+// Opens both files, mine first. If one cannot be opened, that is reported, and the status returned.
+fn open_two<S: FileSystem, E: Write>(
+    system: &S,
+    arguments: &CompareArguments,
+    errors: &mut E,
+) -> Result<(S::File, S::File), u8>
+    ensures mine { IfOk result (λ files. S.File.remaining files.0 ≡ S.bytes_of system.now (string_bytes arguments.now.mine)) }
+    ensures theirs { IfOk result (λ files. S.File.remaining files.1 ≡ S.bytes_of system.now (string_bytes arguments.now.theirs)) }
+    ensures can { OnOk result (CanOpenBoth (S.opens_of system.now) arguments.now) }
+    ensures unopened { IfErr result (λ status. (status ≡ 2) × ReportsUnopened (S.opens_of system.now) arguments.now (E.contents errors.old) (E.contents errors.new)) }
+    ensures silent { OnOk result (errors.new ≡ errors.old) }
+{
+    let mine = match open_named(system, arguments.mine.as_str(), errors) {
+        Ok(file) => file,
+        Err(status) => return Err(status),
+    };
+    match open_named(system, arguments.theirs.as_str(), errors) {
+        Ok(theirs) => Ok((mine, theirs)),
+        Err(status) => Err(status),
+    }
+}
+
 /// Runs `compare` over the files of its names and this output, whatever its arguments say of one, and returns the exit status: 0 if all was done, 1 if the files are of
 /// different rulesets, 2 if reading, writing or memory failed, 3 for a file that is not a solution file. A fault goes
 /// to `errors`, and before it, or at status 0 alone, what `run_compare` says. Both files are opened in `system` before one is read.
@@ -285,16 +307,14 @@ pub(crate) fn run<S: FileSystem, W: Write, E: Write>(
     ensures usage { result ≡ 1 → out.new ≡ out.old }
     ensures few { result ≤ 3 }
     ensures unreadable { result ≡ 3 → out.new ≡ out.old }
+    ensures opened { result ≢ 2 → CanOpenBoth (S.opens_of system.now) arguments.now }
     ensures said { result ≡ 0 → CompareSaid (S.bytes_of system.now) (errors.new ≡ errors.old) arguments.now (E.contents errors.old) (E.contents errors.new) }
 {
-    let mut mine = match open_named(system, arguments.mine.as_str(), errors) {
-        Ok(file) => file,
-        Err(status) => return status,
-    };
-    let mut theirs = match open_named(system, arguments.theirs.as_str(), errors) {
-        Ok(file) => file,
-        Err(status) => return status,
-    };
-    let done = run_compare(alloc, arguments, &mut mine, &mut theirs, out, errors);
-    end(done, arguments, errors)
+    match open_two(system, arguments, errors) {
+        Ok((mut mine, mut theirs)) => {
+            let done = run_compare(alloc, arguments, &mut mine, &mut theirs, out, errors);
+            end(done, arguments, errors)
+        }
+        Err(status) => status,
+    }
 }

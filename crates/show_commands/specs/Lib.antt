@@ -6,5 +6,5 @@ pub mod Output
 pub mod Show
 pub mod Knowing
 pub mod Pack
-pub mod ShowJobs
 pub mod Reporting
+pub mod ShowJobs

@@ -2,8 +2,10 @@
 use Rattle.std.specs.Prelude.{◌≡◌, ℕ, Bool, List, [], ◌∷◌, ◌++◌, Option, Some, None, string_bytes}
 use Rattle.std.specs.List.{AllByRecursion}
 use Rattle.system_files.specs.Files.{CanOpen, CannotOpen}
+use Rattle.command_line.specs.Printing.{ReportsFile}
 use Rattle.command_line.specs.declared.source.Source.{Source}
 use Rattle.command_line.specs.declared.source.Source.TheVariants.{Standard, Named}
+use Rattle.command_line.specs.declared.tool_fault.ToolFault.TheVariants.{Read}
 use Rattle.show_commands.specs.declared.input_file.Stage.{Stage}
 use Rattle.show_commands.specs.declared.input_file.Stage.TheVariants.{Closed, Open, Ended}
 use Rattle.show_commands.specs.declared.not_opened.NotOpened.{NotOpened}
@@ -41,7 +43,13 @@ pub record IsFirstUnopened (opens_of : List ℕ → Option Bool) (sources : List
   pub can : CanOpenAll opens_of before
   pub cannot : CannotOpenSource opens_of source
 
--- why the inputs of these sources are not all open
-abbrev pub AreNotOpened : (opens_of : List ℕ → Option Bool) → List Source → NotOpened → Type 0
-AreNotOpened opens_of sources Memory = Unit {0}
-AreNotOpened opens_of sources Reported = (source : Source) × IsFirstUnopened opens_of sources source
+-- that the input of this source cannot be opened was reported by its name
+abbrev pub ReportsUnopened : Source → (old new : Option (List ℕ)) → Type 0
+ReportsUnopened Standard old new = ⊥
+ReportsUnopened (Named name) old new = ReportsFile Read (string_bytes name) old new
+
+-- why the inputs of these sources are not all open: the first that cannot be opened was reported; what standard error had before,
+-- and has
+abbrev pub AreNotOpened : (opens_of : List ℕ → Option Bool) → List Source → (old new : Option (List ℕ)) → NotOpened → Type 0
+AreNotOpened opens_of sources old new Memory = new ≡ old
+AreNotOpened opens_of sources old new Reported = (source : Source) × IsFirstUnopened opens_of sources source × ReportsUnopened source old new

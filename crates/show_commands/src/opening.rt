@@ -1,9 +1,9 @@
 //! Several inputs, of which the first are opened before one is read.
 
-ghost use Rattle.std.specs.Prelude.{◌≡◌, ◌++◌, Some, map, take, OnOk, IfOk, IfErr};
+ghost use Rattle.std.specs.Prelude.{◌≡◌, ◌++◌, Some, map, take, OnOk, OnErr, IfOk, IfErr};
 ghost use Rattle.either.specs.Either.{either};
 ghost use Rattle.command_line.specs.Inputs.{known_of, knowns_of};
-ghost use Rattle.show_commands.specs.Opening.{AreNotOpened, CanOpenAll, CanOpenSource, CannotOpenSource, left_of};
+ghost use Rattle.show_commands.specs.Opening.{AreNotOpened, CanOpenAll, CanOpenSource, CannotOpenSource, ReportsUnopened, left_of};
 ghost use Rattle.show_commands.specs.declared.not_opened.NotOpened.TheVariants as NotOpened;
 
 use crate::input_file::InputFile;
@@ -26,6 +26,7 @@ fn open_source<'a, S: FileSystem, E: Write>(
     ensures can { OnOk result (CanOpenSource (S.opens_of system.now) source.now) }
     ensures cannot { IfErr result (λ status. (status ≡ 2) × CannotOpenSource (S.opens_of system.now) source.now) }
     ensures silent { OnOk result (errors.new ≡ errors.old) }
+    ensures printed { OnErr result (ReportsUnopened source.now (E.contents errors.old) (E.contents errors.new)) }
 {
     match source {
         Source::Standard => Ok(Either::Right(standard)),
@@ -60,7 +61,7 @@ fn open_each<'a, S: FileSystem, E: Write>(
 ) -> Result<Vec<Either<InputFile<'a, S>, &'a [u8]>>, NotOpened>
     ensures opened { IfOk result (λ inputs. map (either (λ file. left_of S.File.remaining (S.bytes_of file.system.now file.name.now) file.stage) (λ bytes. Some bytes.now)) inputs.items ≡ knowns_of (S.bytes_of system.now) (Some standard.now) sources.now) }
     ensures can { OnOk result (CanOpenAll (S.opens_of system.now) sources.now) }
-    ensures not_opened { IfErr result (AreNotOpened (S.opens_of system.now) sources.now) }
+    ensures not_opened { IfErr result (AreNotOpened (S.opens_of system.now) sources.now (E.contents errors.old) (E.contents errors.new)) }
     ensures silent { OnOk result (errors.new ≡ errors.old) }
 {
     let mut inputs = Vec::new(alloc);
@@ -101,7 +102,7 @@ pub(crate) fn open_all<'a, S: FileSystem, E: Write>(
 ) -> Result<Vec<Either<InputFile<'a, S>, &'a [u8]>>, NotOpened>
     ensures opened { IfOk result (λ inputs. map (either (λ file. left_of S.File.remaining (S.bytes_of file.system.now file.name.now) file.stage) (λ bytes. Some bytes.now)) inputs.items ≡ knowns_of (S.bytes_of system.now) (Some standard.now) sources.now) }
     ensures can { OnOk result (CanOpenAll (S.opens_of system.now) (take at_once sources.now)) }
-    ensures not_opened { IfErr result (AreNotOpened (S.opens_of system.now) (take at_once sources.now)) }
+    ensures not_opened { IfErr result (AreNotOpened (S.opens_of system.now) (take at_once sources.now) (E.contents errors.old) (E.contents errors.new)) }
     ensures silent { OnOk result (errors.new ≡ errors.old) }
 {
     let (first, later) = sources.split_at(at_once.min(sources.len()));

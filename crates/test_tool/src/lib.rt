@@ -5,7 +5,7 @@
 #[cfg(test)]
 mod files;
 #[cfg(test)]
-mod folders;
+mod folder_files;
 #[cfg(test)]
 mod puts;
 #[cfg(test)]

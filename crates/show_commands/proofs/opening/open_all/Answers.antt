@@ -15,7 +15,7 @@ returns-in-Ok-clause-opened g c =
 
 pub returns-in-Err-clause-not_opened : goal.returns-in-Err-clause-not_opened
 returns-in-Err-clause-not_opened g c =
-    subst (λ (sources : List Source). AreNotOpened (g.S.FileSystem.opens_of c.args.system.now) sources c.in-Err.why)
+    subst (λ (sources : List Source). AreNotOpened (g.S.FileSystem.opens_of c.args.system.now) sources (g.E.Write.contents c.args.errors.now) (g.E.Write.contents c.open_each.new.errors) c.in-Err.why)
     (first_part c.split_at.result.0.now c.args.sources.now c.min.result c.args.at_once c.split_at.ensures.front c.min.ensures) c.in-Err.ensures.not_opened
 
 pub returns-in-Ok-clause-can : goal.returns-in-Ok-clause-can

@@ -1,14 +1,17 @@
-use Rattle.std.proofs.Common.{◌∙◌, [], Some}
+use Rattle.std.proofs.Common.{◌∙◌, [], Some, subst}
+use Rattle.show_commands.specs.Opening.{ReportsUnopened}
 use Rattle.command_line.specs.Inputs.{known_of}
 use Rattle.show_commands.proofs.Opened.{can_next, first_unopened, known_next}
 use Rattle.show_commands.proofs.opening.open_each.Goals as goal
 
 pub returns-in-Err-clause-not_opened : goal.returns-in-Err-clause-not_opened
 returns-in-Err-clause-not_opened g c =
-    let before = c.loop-source in (
+    let before = c.loop-source in
+    let new = g.E.Write.contents c.open_source.new.errors in (
       c.source-item.result,
       first_unopened (g.S.FileSystem.opens_of c.args.system.now) c.args.sources.now before.source-index c.source-item.result c.loop-source-test.true c.source-item.is before.invariant.can
           c.in-Err.ensures.cannot.1,
+      subst (λ (e : g.row.E.Denot). ReportsUnopened c.source-item.result (g.E.Write.contents e) new) before.invariant.silent c.in-Err.ensures.printed,
     )
 
 pub loop-source-preserved : goal.loop-source-preserved

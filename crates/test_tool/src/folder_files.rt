@@ -1,6 +1,6 @@
 //! `best` over folders in memory.
 
-ghost use Rattle.std.specs.Prelude.{None};
+ghost use Rattle.std.specs.Prelude.{[], None, Some};
 
 use crate::files::Input;
 use file_commands::run_file_job;
@@ -23,7 +23,7 @@ impl FileSystem for Folders {
 
     ghost bytes_of = { λ _ _. None };
 
-    ghost drafted_of = { λ _ _. None };
+    ghost drafted_of = { λ _ _. Some [] };
 
     ghost opens_of = { λ _ _. None };
 
@@ -58,7 +58,7 @@ impl FileSystem for Folders {
     }
 
     fn publish(&mut self, _name: &str, _draft: Vec<u8>) -> io::Result<()> {
-        Ok(())
+        Err(io::Error::from(io::ErrorKind::Unsupported))
     }
 
     fn abandon(&mut self, _draft: Vec<u8>) -> Option<io::Error> {
