@@ -1,4 +1,4 @@
--- What is printed of why a command of several inputs failed.
+-- What is printed of why a command failed.
 use Rattle.std.specs.Prelude.{◌≡◌, ◌≢◌, ◌⊎◌, ℕ, List, [], ◌∷◌, Option, Some, None, Result, Ok, Err, slice_get, string_bytes}
 use Rattle.std.specs.List.{Contains}
 use Rattle.std.specs.Borrow.{Bor}
@@ -38,3 +38,7 @@ ReportsAmong sources inputs (Err (Unreadable index fault)) old new = Printed (re
 ReportsAmong sources inputs (Err Memory) old new = Printed (report_lines Memory []) old new
 ReportsAmong sources inputs (Err Socket) old new = Printed (report_lines Socket []) old new
 ReportsAmong sources inputs (Err (Transfer why)) old new = Printed (report_lines (Transfer why) []) old new
+
+-- nothing, or that the file of this name was not written
+abbrev pub ReportsSave : (name : Text) → (old new : Option (List ℕ)) → Type 0
+ReportsSave name old new = (new ≡ old) ⊎ ReportsFile Write name old new ⊎ Printed (report_lines Write []) old new

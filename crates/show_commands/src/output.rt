@@ -4,6 +4,7 @@ ghost use Rattle.std.specs.Prelude.{◌≡◌, ◌≤◌, false, None, Some, OnO
 ghost use Rattle.clap.specs.Words.{rule_of};
 ghost use Rattle.system_files.specs.Files.{Keeps};
 ghost use Rattle.show_commands.specs.Output.{Replaces, Saves, output_rule};
+ghost use Rattle.show_commands.specs.Reporting.{ReportsSave};
 
 use byte_output::put;
 use clap::Arg;
@@ -77,6 +78,7 @@ pub fn save<S: FileSystem, E: Write>(
 ) -> u8
     ensures saved { Saves name.now text.now made result (S.drafted_of system.old name.now) (S.bytes_of system.old) (S.bytes_of system.new) }
     ensures silent { result ≡ 0 → errors.new ≡ errors.old }
+    ensures printed { ReportsSave name.now (E.contents errors.old) (E.contents errors.new) }
 {
     if made != DONE {
         return made;
