@@ -11,7 +11,9 @@ use Rattle.command_line.specs.Saying.{Says}
 use Rattle.command_line.specs.Printing.{Printed, Prints, ReportsFile, fault_text, line_about, report_lines}
 use Rattle.archive_commands.specs.declared.reached.Reached.{Reached}
 use Rattle.archive_commands.specs.Labels.{are_several}
-use Rattle.archive_commands.specs.Reports.{PutReports, ReportsEach, ReportsFirst, ReportsGet, ReportsOne, ReportsUnread, SaysThen, ReportsReceived, file_fault_lines, name_of, no_answer_line, reached_line, reached_lines, refusal_lines, server_says}
+use Rattle.archive_commands.specs.PutFiles.{AreRead, NotesStopping}
+use Rattle.archive_commands.specs.PutSaid.{PutReports}
+use Rattle.archive_commands.specs.Reports.{ReportsEach, ReportsFirst, ReportsGet, ReportsOne, ReportsUnread, SaysThen, ReportsReceived, file_fault_lines, name_of, no_answer_line, reached_line, reached_lines, refusal_lines, server_says}
 
 module _ (old new : Option (List ℕ)) where
   -- a text of the server that is not empty
@@ -91,10 +93,12 @@ pub unsaid_then : (note : List ℕ) (sources : List Source) (address : List ℕ)
 unsaid_then note sources address fault old mid new is cut printed = inr (mid, cut, subst (λ (f : ToolFault). Printed (report_lines f []) mid new) is printed)
 
 -- these are the sources of `put`, by another name, and nothing was printed before
-module _ (sources given_sources : List Source) (address : List ℕ) (status : ℕ) (old mid new : Option (List ℕ)) (same : sources ≡ given_sources) where
-  pub put_reports : (note : List ℕ) → mid ≡ old → SaysThen note sources address mid new → PutReports given_sources address status old new
-  put_reports note silent says =
-      inr (inr (note, subst (λ (ss : List Source). SaysThen note ss address old new) same (subst (λ (o : Option (List ℕ)). SaysThen note sources address o new) silent says)))
+module _ (bytes_of : List ℕ → Option (List ℕ)) (sources given_sources : List Source) (given : Option (List ℕ)) (address : List ℕ) (status : ℕ) (old mid new : Option (List ℕ)) (same : sources ≡ given_sources) where
+  pub put_reports : (texts : List (List ℕ)) (left : Option (List ℕ)) (note said : List ℕ) → AreRead bytes_of sources texts given left → NotesStopping (are_several sources) sources texts note → said ≡ note → mid ≡ old → SaysThen said sources address mid new
+      → PutReports bytes_of given_sources given address status old new
+  put_reports texts left note said read notes said-is silent says =
+      subst (λ (ss : List Source). PutReports bytes_of ss given address status old new) same
+      (inr (inr (texts, left, read, (note, notes, subst (λ (text : List ℕ). SaysThen text sources address old new) said-is (subst (λ (o : Option (List ℕ)). SaysThen said sources address o new) silent says)))))
 
-  pub put_unread : ReportsFirst sources status old new → PutReports given_sources address status old new
+  pub put_unread : ReportsFirst sources status old new → PutReports bytes_of given_sources given address status old new
   put_unread first = inr (inl (subst (λ (ss : List Source). ReportsFirst ss status old new) same first))

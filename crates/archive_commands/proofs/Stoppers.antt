@@ -1,9 +1,9 @@
 -- The first solution of a file that stops Tile World, and the lines that name it.
-use Rattle.std.proofs.Common.{◌≡◌, ◌≢◌, ◌∙◌, ◌<◌, ◌+◌, ℕ, Bool, List, [], ◌∷◌, ◌++◌, length, map, take, get_or, Option, None, Some, Ok, refl, sym, ap, subst, arith, append_assoc, append-nil}
+use Rattle.std.proofs.Common.{◌≡◌, ◌∙◌, ◌<◌, ◌+◌, ℕ, Bool, List, [], ◌∷◌, ◌++◌, length, map, take, get_or, Option, None, Some, Ok, refl, sym, ap, subst, arith, append_assoc, append-nil}
 use Rattle.std.specs.List.{AllZip}
 use Rattle.std.proofs.lemmas.List.{map-append, take_more}
 use Rattle.tws_file.specs.declared.key.Key.{Key}
-use Rattle.tws_file.specs.Text.{IsText, Record}
+use Rattle.tws_file.specs.Text.{Record}
 use Rattle.tws_reader.specs.PartReader.{IsTextWith}
 use Rattle.tws_reader.specs.Steps.{with_records}
 use Rattle.tftp_packet.specs.declared.endpoint.Endpoint.{Endpoint}

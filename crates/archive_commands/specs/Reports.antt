@@ -6,7 +6,6 @@ use Rattle.clap.specs.Words.{Text}
 use Rattle.byte_output.specs.Output.{AppendsPrefix}
 use Rattle.byte_output.specs.Printable.{shown}
 use Rattle.tws_file.specs.declared.file_fault.FileFault.TheVariants as file
-use Rattle.tws_file.specs.declared.«ruleset».Ruleset.{Ruleset}
 use Rattle.tftp_packet.specs.declared.endpoint.Endpoint.{Endpoint}
 use Rattle.tftp_packet.specs.declared.cause.Cause.TheVariants as cause
 use Rattle.command_line.specs.declared.source.Source.{Source}
@@ -184,12 +183,6 @@ abbrev pub SaysThen : (note : List ℕ) → List Source → (address : Text) →
 SaysThen note sources address old new =
     ((mid : Option (List ℕ)) × Says note (mid ≡ old) old mid × ((count : ℕ) × ReportsEach (are_several sources) address (take count sources) mid new))
     ⊎ ((mid : Option (List ℕ)) × AppendsPrefix old mid note × Printed (report_lines Write []) mid new)
-
--- What `put` printed, for these files, this address and this status: that it leads to no host; why a file was not read; or what there
--- was to say of the files, and what was reported of each.
-abbrev pub PutReports : List Source → (address : Text) → (status : ℕ) → (old new : Option (List ℕ)) → Type 0
-PutReports sources address status old new =
-    ((status ≡ 1) × ((reason : Text) × Printed (bad_address_lines address reason) old new)) ⊎ ReportsFirst sources status old new ⊎ ((note : List ℕ) × SaysThen note sources address old new)
 
 -- ---- a server that ended
 

@@ -1,6 +1,6 @@
 //! The command `put`.
 
-ghost use Rattle.std.specs.Prelude.{◌≡◌, ◌≢◌, ◌⊎◌, ◌+◌, List, ℕ, length, false, Ok, Err, OnOk, IfOk, IfErr, IfSome, string_bytes};
+ghost use Rattle.std.specs.Prelude.{◌≡◌, ◌≢◌, ◌⊎◌, ◌+◌, length, false, Ok, Err, OnOk, IfOk, IfErr, IfSome, string_bytes};
 ghost use Rattle.std.specs.Io.KnownBytes.{IsAtEnd};
 ghost use Rattle.clap.specs.Matches.{found_of};
 ghost use Rattle.clap.specs.Words.{app_of, rows_of};
@@ -16,8 +16,8 @@ ghost use Rattle.archive_commands.specs.Labels.{are_several};
 ghost use Rattle.archive_commands.specs.PutRan.{PutRan};
 ghost use Rattle.archive_commands.specs.Faults.{run_fault};
 ghost use Rattle.archive_commands.specs.Lines.{Unless};
-ghost use Rattle.archive_commands.specs.PutSaid.{PutSaid};
-ghost use Rattle.archive_commands.specs.Reports.{PutReports, bad_address_lines};
+ghost use Rattle.archive_commands.specs.PutSaid.{PutReports, PutSaid};
+ghost use Rattle.archive_commands.specs.Reports.{bad_address_lines, no_host_reason, swapped_reason};
 ghost use Rattle.archive_commands.specs.Stopping.{IsFirstStopping};
 
 use crate::address::{Address, locate};
@@ -177,7 +177,7 @@ pub fn put_file<R: Read, N: TransferWire, W: Write>(
 // Reports that ADDRESS leads to no host, and returns the status.
 fn not_located<E: Write>(arguments: &PutArguments, errors: &mut E) -> u8
     ensures status { result ≡ 1 }
-    ensures printed { (reason : List ℕ) × Printed (bad_address_lines (string_bytes arguments.now.target.address) reason) (E.contents errors.old) (E.contents errors.new) }
+    ensures printed { Printed (bad_address_lines (string_bytes arguments.now.target.address) no_host_reason) (E.contents errors.old) (E.contents errors.new) ⊎ Printed (bad_address_lines (string_bytes arguments.now.target.address) swapped_reason) (E.contents errors.old) (E.contents errors.new) }
 {
     let address = arguments.target.address.as_str();
     match arguments.sources.first() {
@@ -206,7 +206,7 @@ pub fn run<S: FileSystem + Resolver, N: TransferWire, R: Read, W: Write, E: Writ
     // The same of one file at any other fault than in writing.
     ensures unwritten { are_several arguments.now.sources.items ≡ false → result ≢ 0 → result ≢ 2 → out.new ≡ out.old }
     ensures said { result ≡ 0 → PutSaid (S.bytes_of system.now) arguments.now.sources.items (R.remaining input.old) (errors.new ≡ errors.old) (E.contents errors.old) (E.contents errors.new) }
-    ensures printed { PutReports arguments.now.sources.items (string_bytes arguments.now.target.address) result (E.contents errors.old) (E.contents errors.new) }
+    ensures printed { PutReports (S.bytes_of system.now) arguments.now.sources.items (R.remaining input.old) (string_bytes arguments.now.target.address) result (E.contents errors.old) (E.contents errors.new) }
 {
     let target = &arguments.target;
     let Some(host) = locate(system, target.address.as_str()) else {

@@ -9,8 +9,8 @@ ghost use Rattle.command_line.specs.Saying.{Says};
 ghost use Rattle.archive_commands.specs.Labels.{are_several, label_of};
 ghost use Rattle.archive_commands.specs.Lines.{LineFails, Unless, sent_line};
 ghost use Rattle.archive_commands.specs.PutFiles.{AreRead, FailsToRead, HasRead, IsFailedStatus, IsUnread, NotesStopping, PutsFiles, PutsText, PutsWhole, SendsEach, SendsOne, SendsSaid, status_among};
-ghost use Rattle.archive_commands.specs.PutSaid.{PutSaid};
-ghost use Rattle.archive_commands.specs.Reports.{PutReports, ReportsEach, ReportsFirst, ReportsOne, ReportsSent, ReportsUnread, SaysThen};
+ghost use Rattle.archive_commands.specs.PutSaid.{PutReports, PutSaid};
+ghost use Rattle.archive_commands.specs.Reports.{ReportsEach, ReportsFirst, ReportsOne, ReportsSent, ReportsUnread, SaysThen};
 ghost use Rattle.archive_commands.specs.Stopping.{IsFirstStopping, stopping_line};
 
 use crate::labels::{are_several, finish_sent, push_label, report_file_fault};
@@ -304,7 +304,7 @@ pub(crate) fn put_files<S: FileSystem, N: TransferWire, R: Read, W: Write, E: Wr
     ensures unreadable { are_several arguments.now.sources.items ≡ true → result ≡ 3 → out.new ≡ out.old }
     ensures unwritten { are_several arguments.now.sources.items ≡ false → result ≢ 0 → result ≢ 2 → out.new ≡ out.old }
     ensures said { result ≡ 0 → PutSaid (S.bytes_of system.now) arguments.now.sources.items (R.remaining input.old) (errors.new ≡ errors.old) (E.contents errors.old) (E.contents errors.new) }
-    ensures printed { PutReports arguments.now.sources.items (string_bytes arguments.now.target.address) result (E.contents errors.old) (E.contents errors.new) }
+    ensures printed { PutReports (S.bytes_of system.now) arguments.now.sources.items (R.remaining input.old) (string_bytes arguments.now.target.address) result (E.contents errors.old) (E.contents errors.new) }
 {
     let sources = arguments.sources.as_slice();
     let mut note = String::new(alloc);

@@ -1,4 +1,4 @@
-use Rattle.std.proofs.Common.{ℕ, Bool, List, true, codes, refl, sym, subst}
+use Rattle.std.proofs.Common.{ℕ, Bool, List, codes, refl, sym, subst}
 use Rattle.command_line.specs.Printing.{Printed, Prints, line_about}
 use Rattle.archive_commands.specs.Reports.{uncompared_lines}
 use Rattle.archive_commands.proofs.put_better.print_uncompared.Goals as goal

@@ -36,10 +36,11 @@ returns-clause-puts g c =
 
 pub returns-in-Ok-clause-printed : goal.returns-in-Ok-clause-printed
 returns-in-Ok-clause-printed g c =
-    put_reports c.as_slice-sources.result.now c.args.arguments.now.sources.items (string_bytes c.args.arguments.now.target.address) c.say_and_send.result (g.E.Write.contents c.args.errors.now) (g.E.Write.contents c.read_all.new.errors) (g.E.Write.contents c.say_and_send.new.errors)
-    c.as_slice-sources.ensures.value c.as_str-note.result.now (ap g.E.Write.contents c.in-Ok.ensures.silent) c.say_and_send.ensures.printed
+    put_reports (g.S.FileSystem.bytes_of c.args.system.now) c.as_slice-sources.result.now c.args.arguments.now.sources.items (g.R.Read.remaining c.args.input.now) (string_bytes c.args.arguments.now.target.address) c.say_and_send.result
+    (g.E.Write.contents c.args.errors.now) (g.E.Write.contents c.read_all.new.errors) (g.E.Write.contents c.say_and_send.new.errors) c.as_slice-sources.ensures.value (map (λ (text : Vec ℕ Global). text.items) c.in-Ok.texts.items)
+    (g.R.Read.remaining c.read_all.new.input) (string_bytes c.read_all.new.note) c.as_str-note.result.now c.in-Ok.ensures.read c.in-Ok.ensures.noted c.as_str-note.ensures.value (ap g.E.Write.contents c.in-Ok.ensures.silent) c.say_and_send.ensures.printed
 
 pub returns-clause-printed : goal.returns-clause-printed
 returns-clause-printed g c =
-    put_unread c.as_slice-sources.result.now c.args.arguments.now.sources.items (string_bytes c.args.arguments.now.target.address) c.in-Err.status (g.E.Write.contents c.args.errors.now) (g.E.Write.contents c.args.errors.now) (g.E.Write.contents c.read_all.new.errors)
-    c.as_slice-sources.ensures.value c.in-Err.ensures.printed
+    put_unread (g.S.FileSystem.bytes_of c.args.system.now) c.as_slice-sources.result.now c.args.arguments.now.sources.items (g.R.Read.remaining c.args.input.now) (string_bytes c.args.arguments.now.target.address) c.in-Err.status
+    (g.E.Write.contents c.args.errors.now) (g.E.Write.contents c.args.errors.now) (g.E.Write.contents c.read_all.new.errors) c.as_slice-sources.ensures.value c.in-Err.ensures.printed
