@@ -9,11 +9,10 @@ ghost use Rattle.archive_table.specs.Keeper.{HasLoaded, TableFails};
 ghost use Rattle.archive_world.specs.View.{asked_as, operation_of};
 ghost use Rattle.archive_model.specs.World.{World, start, has_begun, begins, server_endpoint, net_with, taken_with, opened_with, got_with, asked_of, asked_named, after_request, after_transfer, strays_in, client_at, client_waits, client_receives};
 ghost use Rattle.archive_world.specs.Inside.{ReceivesAtPort, answered_by};
-ghost use Rattle.archive_world.specs.Outcomes.{outcome_of};
 ghost use Rattle.archive_theorem.specs.Reuse.{has_strayed, was_opened, is_opening_at};
-ghost use Rattle.tws_best.specs.Best.{collection_text};
 
 mod ending;
+mod finishing;
 mod starting;
 
 use crate::answered::Answered;
@@ -23,7 +22,6 @@ use crate::datagram::Datagram;
 use crate::got_file::GotFile;
 use crate::op::Op;
 use crate::opening::Opening;
-use crate::outcome::Outcome;
 use crate::running::Running;
 use crate::seat::Seat;
 use crate::seats::{find, is_one, receive_at, wait_at};
@@ -33,7 +31,6 @@ use archive_table::{Keeper, LoadFault, Step, Table, Taken};
 use std::alloc::{AllocError, Allocator, Global};
 use std::marker::Model;
 use tftp_packet::{Endpoint, Out, Packet, decode};
-use tws_best::Collection;
 use tws_file::{Bytes, Ruleset};
 
 /// A world: the real table and clients, and the datagrams that they have sent.
@@ -329,60 +326,6 @@ impl<A: Allocator + Copy> Machine<A> {
         Ok(opened)
     }
 
-    /// The outcome of all that has happened.
-    ///
-    /// # Errors
-    ///
-    /// Out of memory.
-    pub(crate) fn outcome(self) -> Result<Outcome<A>, AllocError>
-        ensures { IfOk result (λ o. o ≡ outcome_of self) }
-    {
-        let (lynx, ms) = match self.texts() {
-            Ok(texts) => texts,
-            Err(fault) => {
-                drop(self);
-                return Err(fault);
-            }
-        };
-        let Machine {
-            net,
-            table,
-            clients,
-            begun,
-            taken,
-            recovered,
-            sent,
-            got,
-            opened,
-            strays,
-            ..
-        } = self;
-        drop(table);
-        drop(clients);
-        drop(begun);
-        drop(strays);
-        Ok(Outcome {
-            taken,
-            recovered,
-            sent,
-            got,
-            opened,
-            lynx,
-            ms,
-            datagrams: net,
-        })
-    }
-
-    // The texts of the server's Lynx and MS collections.
-    fn texts(&self) -> Result<(Bytes<A>, Bytes<A>), AllocError>
-        ensures lynx { IfOk result (λ texts. texts.0 ≡ collection_text self.now.server.maps.lynx) }
-        ensures ms { IfOk result (λ texts. texts.1 ≡ collection_text self.now.server.maps.ms) }
-    {
-        let lynx = text_of(self.alloc, self.table.collection(Ruleset::Lynx))?;
-        let ms = text_of(self.alloc, self.table.collection(Ruleset::Ms))?;
-        Ok((lynx, ms))
-    }
-
     // Records the transfer that was opened at this port for a request, if one was.
     fn open(&mut self, opened: bool, port: u16, d: &Datagram<A>) -> Result<(), AllocError>
         ensures { OnOk result (self.new ≡ record self.old { past = record self.old.past { opened = opened_with opened (record { peer = d.now.source; port = port; asked = asked_of d.now.bytes; taken = length self.old.taken }) self.old.opened } }) }
@@ -397,20 +340,6 @@ impl<A: Allocator + Copy> Machine<A> {
             taken: self.taken.len(),
         })?;
         Ok(())
-    }
-}
-
-// The text of a collection.
-fn text_of<A: Allocator + Copy>(
-    alloc: A,
-    collection: &Collection<A>,
-) -> Result<Bytes<A>, AllocError>
-    ensures { IfOk result (λ text. text ≡ collection_text collection.now) }
-{
-    let mut text = Vec::new(alloc);
-    match collection.write_text(&mut text) {
-        Ok(()) => Ok(Bytes::of(text)),
-        Err(_) => Err(AllocError),
     }
 }
 
