@@ -150,7 +150,7 @@ pub(crate) fn put_shown<N: TransferWire>(
 ///
 /// `Read` if the reader fails or does not end within `INPUT_READS` reads; `Unreadable` with index 0 and the fault of the
 /// bytes, of which no more are read once no further ones can cure it; `Transfer(TooLong)` if more than `MAX_FILE` bytes have
-/// no such fault, of which at most 65,536 beyond these are read: then nothing is sent. `Socket` if no port was opened, and `Transfer` with the cause of the failed transfer.
+/// no such fault, of which at most 16,384 beyond these are read: then nothing is sent. `Socket` if no port was opened, and `Transfer` with the cause of the failed transfer.
 /// `Write` if the writer fails, after the file was sent. `Memory` if an allocation was refused.
 pub fn put_file<R: Read, N: TransferWire, W: Write>(
     alloc: Global,

@@ -6,5 +6,5 @@ use crate::limits::{INPUT_PIECE, INPUT_READS};
 
 /// The values of the limits, which the definitions refer to by name.
 pub fn limit_values()
-    ensures { (INPUT_READS ≡ 67108864) × (INPUT_PIECE ≡ 65536) }
+    ensures { (INPUT_READS ≡ 67108864) × (INPUT_PIECE ≡ 16384) }
 {}

@@ -4,4 +4,4 @@
 pub const INPUT_READS: u32 = 1 << 26;
 
 /// How many bytes one read of an input takes at most.
-pub const INPUT_PIECE: usize = 1 << 16;
+pub const INPUT_PIECE: usize = 1 << 14;
