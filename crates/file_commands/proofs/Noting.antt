@@ -7,7 +7,7 @@ use Rattle.tws_file.specs.declared.«ruleset».Ruleset.{Ruleset}
 use Rattle.tws_file.specs.declared.«ruleset».Ruleset.TheVariants.{Lynx, Ms}
 use Rattle.tws_file.specs.Text.{File, IsText}
 use Rattle.command_line.specs.declared.source.Source.{Source}
-use Rattle.tws_tables.specs.SetName.{set_name_of}
+use Rattle.tws_pages.specs.SetName.{set_name_of}
 use Rattle.command_line.specs.Saying.{Says}
 use Rattle.show_commands.specs.Saying.{SaysOfFiles}
 use Rattle.show_commands.specs.SeveralInputs.{AreFiles}

@@ -5,8 +5,8 @@ use Rattle.byte_output.specs.Output.{AppendsPrefix}
 use Rattle.byte_output.specs.declared.out_fault.OutFault.{OutFault}
 use Rattle.byte_output.specs.declared.out_fault.OutFault.TheVariants as out
 use Rattle.command_line.specs.Faults.{written_fault}
-use Rattle.tws_tables.specs.declared.level.Level.{Level}
-use Rattle.tws_tables.specs.LevelPage.{page_by}
+use Rattle.tws_pages.specs.declared.level.Level.{Level}
+use Rattle.tws_pages.specs.LevelPage.{page_by}
 use Rattle.show_commands.specs.SeveralInputs.{AreFiles}
 use Rattle.file_commands.specs.Page.{PageFails}
 

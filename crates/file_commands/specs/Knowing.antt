@@ -2,7 +2,7 @@
 -- commands.
 use Rattle.std.specs.Prelude.{ℕ, List, Option}
 use Rattle.tws_file.specs.declared.«ruleset».Ruleset.{Ruleset}
-use Rattle.tws_tables.specs.declared.level.Level.{Level}
+use Rattle.tws_pages.specs.declared.level.Level.{Level}
 use Rattle.tws_best.specs.Best.{Collected}
 use Rattle.show_commands.specs.SeveralInputs.{AreLessKnown}
 use Rattle.show_commands.specs.Knowing.{files_less, reported_less}

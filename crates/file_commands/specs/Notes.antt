@@ -6,7 +6,7 @@ use Rattle.tws_file.specs.declared.«ruleset».Ruleset.{Ruleset}
 use Rattle.tws_file.specs.declared.«ruleset».Ruleset.TheVariants.{Lynx, Ms}
 use Rattle.tws_file.specs.Text.{File}
 use Rattle.tws_file.specs.Words.{line, ruleset_name}
-use Rattle.tws_tables.specs.SetName.{set_name_of, shown_name}
+use Rattle.tws_pages.specs.SetName.{set_name_of, shown_name}
 use Rattle.command_line.specs.declared.source.Source.{Source}
 use Rattle.command_line.specs.declared.source.Source.TheVariants.{Standard, Named}
 use Rattle.command_line.specs.declared.tool_fault.ToolFault.{ToolFault}

@@ -4,9 +4,9 @@ use Rattle.std.specs.Io.KnownBytes.{Appends}
 use Rattle.clap.specs.Words.{App, Row, Rule, Text, first_of, new_app, new_rule, with_rule}
 use Rattle.tws_file.specs.Text.{File}
 use Rattle.byte_output.specs.Output.{AppendsPrefix}
-use Rattle.tws_tables.specs.declared.level.Level.{Level}
-use Rattle.tws_tables.specs.Levels.{levels_in}
-use Rattle.tws_tables.specs.LevelPage.{page_by}
+use Rattle.tws_pages.specs.declared.level.Level.{Level}
+use Rattle.tws_pages.specs.Levels.{levels_in}
+use Rattle.tws_pages.specs.LevelPage.{page_by}
 use Rattle.show_commands.specs.Output.{output_rule}
 use Rattle.file_commands.specs.declared.page.PageArguments.{PageArguments}
 use Rattle.command_line.specs.declared.tool_fault.ToolFault.{ToolFault}

@@ -1,7 +1,7 @@
 //! The file with the list of levels that `page` may be given.
 
 ghost use Rattle.std.specs.Prelude.{◌≡◌, ◌≢◌, [], IfOk, IfErr, OnOk, MatchOption, option_map, string_bytes};
-ghost use Rattle.tws_tables.specs.Levels.{levels_in};
+ghost use Rattle.tws_pages.specs.Levels.{levels_in};
 ghost use Rattle.file_commands.specs.Page.{AreGiven, AreNotGiven, GivesNoList, HasNoLevel, IsLevelList};
 
 use command_line::{ToolFault, UNREADABLE, open_named, report};
@@ -9,7 +9,7 @@ use show_commands::read_bytes;
 use std::alloc::{AllocError, Global};
 use std::io::Write;
 use system_files::FileSystem;
-use tws_tables::{Level, read_levels};
+use tws_pages::{Level, read_levels};
 
 // The levels in these bytes, if there are any.
 fn levels_in(alloc: Global, bytes: &[u8]) -> Result<Option<Vec<Level>>, AllocError>

@@ -3,7 +3,7 @@
 
 ghost use Rattle.std.specs.Prelude.{◌≡◌, ◌+◌, ◌^◌, ◌<◌, ◌≤◌, [], None, IfOk, OnOk, nat_eq, nat_lt, option_copied, string_bytes};
 ghost use Rattle.std.specs.Str.{bytes_eq};
-ghost use Rattle.tws_tables.specs.SetName.{set_name_of};
+ghost use Rattle.tws_pages.specs.SetName.{set_name_of};
 ghost use Rattle.file_commands.specs.Notes.{counted_after, first_naming, name_at, noted_after, one_unless, other_rules, other_sets, other_sets_note, ruleset_line, ruleset_note, rulesets_line, rulesets_note, said_after, said_in_all, set_in, set_line, set_note, sets_line, sets_note, source_text, unless};
 ghost use Rattle.file_commands.specs.Steps.{said_in};
 
@@ -11,7 +11,7 @@ use command_line::Source;
 use std::alloc::{AllocError, Global};
 use std::marker::Model;
 use tws_file::{Ruleset, TwsFile};
-use tws_tables::{ShownName, set_name};
+use tws_pages::{ShownName, set_name};
 
 // An input as lines about it name it.
 fn source_text(source: &Source) -> &str

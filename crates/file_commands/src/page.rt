@@ -20,7 +20,7 @@ use show_commands::{
 use std::alloc::{AllocError, Global};
 use std::io::{Read, Write};
 use system_files::FileSystem;
-use tws_tables::{Level, write_page_by};
+use tws_pages::{Level, write_page_by};
 
 /// What `page` is asked for.
 #[derive(Drop)]

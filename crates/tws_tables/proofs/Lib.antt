@@ -3,7 +3,5 @@ pub mod Pieces
 pub mod Parts
 pub mod Gathered
 pub mod Wholes
-pub mod Escapes
+pub mod Digits
 pub mod Unquoted
-pub mod Named
-pub mod Leveled

@@ -22,7 +22,7 @@ use Rattle.tws_file.specs.Words.{hex, password_text, ruleset_name}
 use Rattle.tws_file.specs.Text.{File, IsFile, IsRecord, IsSolution, Record, Solution, pad, set, bare, solution}
 use Rattle.tws_tables.specs.Csv.{csv_fields, csv_line, csv_names, csv_of, csv_rows}
 use Rattle.tws_tables.specs.Solved.{seconds_text, solutions_in}
-use Rattle.tws_tables.proofs.Escapes.{no_digits}
+use Rattle.tws_tables.proofs.Digits.{no_digits}
 
 -- no byte of the field calls for quotes
 abbrev IsPlain : List ℕ → Type 0

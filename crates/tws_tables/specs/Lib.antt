@@ -1,12 +1,4 @@
 pub mod Listing
 pub mod Solved
 pub mod Csv
-pub mod Escaping
-pub mod SetName
-pub mod Levels
-pub mod TimeLeft
-pub mod Page
-pub mod LevelTable
-pub mod SideBySide
-pub mod LevelPage
 pub mod Steps

@@ -14,6 +14,10 @@ solved (solution s) = s ∷ []
 abbrev pub solutions_in : List Record → List Solution
 solutions_in records = flat_map solved records
 
+-- the rows of records, of which only solutions have one
+abbrev pub rows_by : (row : Solution → List ℕ) → List Record → List ℕ
+rows_by row records = flat_map row (solutions_in records)
+
 abbrev pub total_ticks : List Solution → ℕ
 total_ticks solutions = sum_by (λ s. s.ticks) solutions
 

@@ -4,12 +4,10 @@ ghost use Rattle.std.specs.Prelude.{◌++◌, OnOk, OnErr};
 ghost use Rattle.std.specs.Io.KnownBytes.{Appends};
 ghost use Rattle.byte_output.specs.Output.{AppendsPrefix};
 ghost use Rattle.tws_file.specs.Record.{records_of};
-ghost use Rattle.tws_tables.specs.declared.row_format.RowFormat.TheVariants.{Csv};
-ghost use Rattle.tws_tables.specs.Csv.{csv_line, csv_names, csv_of};
-ghost use Rattle.tws_tables.specs.Steps.{rows_of};
+ghost use Rattle.tws_tables.specs.Csv.{csv_fields, csv_line, csv_names, csv_of};
+ghost use Rattle.tws_tables.specs.Solved.{rows_by};
 
-use crate::csv_row::push_names;
-use crate::row_format::RowFormat;
+use crate::csv_row::{CsvRows, push_names};
 use crate::rows::send_rows;
 use byte_output::{OutFault, put};
 use std::alloc::Allocator;
@@ -23,12 +21,12 @@ fn write_parts<A: Allocator, B: Allocator, W: Write>(
     records: &[Record<B>],
     out: &mut W,
 ) -> Result<(), OutFault>
-    ensures ok { OnOk result (Appends (W.contents out.old) (W.contents out.new) (csv_line csv_names ++ rows_of (Csv «ruleset») (records_of records.now))) }
-    ensures err { OnErr result (AppendsPrefix (W.contents out.old) (W.contents out.new) (csv_line csv_names ++ rows_of (Csv «ruleset») (records_of records.now))) }
+    ensures ok { OnOk result (Appends (W.contents out.old) (W.contents out.new) (csv_line csv_names ++ rows_by (λ s. csv_line (csv_fields «ruleset» s)) (records_of records.now))) }
+    ensures err { OnErr result (AppendsPrefix (W.contents out.old) (W.contents out.new) (csv_line csv_names ++ rows_by (λ s. csv_line (csv_fields «ruleset» s)) (records_of records.now))) }
 {
     let mut text = String::new(alloc);
     push_names(&mut text)?;
-    send_rows(&mut text, RowFormat::Csv(ruleset), records, out)?;
+    send_rows(&mut text, &CsvRows(ruleset), records, out)?;
     put(out, text.as_bytes())
 }
 

@@ -4,8 +4,9 @@ ghost use Rattle.std.specs.Prelude.{◌≡◌, ◌++◌, string_bytes, OnOk};
 ghost use Rattle.tws_tables.specs.Csv.{csv_names, csv_fields, csv_line};
 ghost use Rattle.tws_tables.specs.Steps.{csv_level, csv_lengths, csv_details};
 
+use crate::counting::move_count;
 use crate::hex_byte::HexByte;
-use crate::move_count::move_count;
+use crate::row_format::RowFormat;
 use crate::seconds::Seconds;
 use std::alloc::{AllocError, Allocator};
 use tws_file::{Key, Password, Ruleset, Solution};
@@ -49,8 +50,8 @@ fn push_details<A: Allocator>(
     writeln!(text, "{flags},{start},{seed},{ruleset}")
 }
 
-/// Appends the line of a solution of a file of this ruleset.
-pub(crate) fn push_csv_row<A: Allocator, B: Allocator>(
+// Appends the line of a solution of a file of this ruleset.
+fn push_csv_row<A: Allocator, B: Allocator>(
     text: &mut String<A>,
     ruleset: Ruleset,
     s: &Solution<B>,
@@ -60,4 +61,20 @@ pub(crate) fn push_csv_row<A: Allocator, B: Allocator>(
     push_level(text, s.key, s.ticks)?;
     push_lengths(text, s.ticks, move_count(s), s.moves.len())?;
     push_details(text, s.flags, s.start, s.seed, ruleset)
+}
+
+/// Lines of comma-separated values, for a file of this ruleset.
+#[derive(Clone, Copy)]
+pub(crate) struct CsvRows(pub(crate) Ruleset);
+
+impl RowFormat for CsvRows {
+    ghost row_text = { λ rows solution. csv_line (csv_fields rows.0 solution) };
+
+    fn push_row<A: Allocator, B: Allocator>(
+        &self,
+        text: &mut String<A>,
+        solution: &Solution<B>,
+    ) -> Result<(), AllocError> {
+        push_csv_row(text, self.0, solution)
+    }
 }

@@ -7,7 +7,7 @@ use std::fmt;
 
 /// Displays a byte as two lower-case hexadecimal digits.
 #[derive(Clone, Copy)]
-pub(crate) struct HexByte(pub(crate) u8);
+pub struct HexByte(pub u8);
 
 impl fmt::Display for HexByte {
     ghost output = { λ b. Some (hex_byte b.0) };

@@ -1,49 +1,31 @@
-//! A solution file as text: its listing, its solutions as comma-separated values, and a page of HTML of several files.
-//! README.md has a caller, and what is proved.
+//! A solution file as text: its listing, and its solutions as comma-separated values. README.md has a caller, and what is
+//! proved.
 //!
-//! Read `specs/Listing.antt`, `specs/Csv.antt` and `specs/Page.antt` first: they define the texts. `specs/Escaping.antt`
-//! defines how a password stands in a page. The definitions in `specs/Steps.antt` are only for private functions.
+//! Read `specs/Listing.antt` and `specs/Csv.antt` first: they define the texts. The definitions in `specs/Steps.antt` are
+//! only for private functions.
 //!
-//! `listing`, `comma_values` and `page` write the texts; `lines` has the lines of a listing; `rows` gathers the rows of
-//! the others, which `csv_row` and `page_row` push; `page_head` and `markup` have what every page has. `level_set` reads
-//! the name of a file's level set. `level_list` reads a list of levels, and `level_page`, `side_by_side`,
-//! `level_section` and `level_rows` write a page by it.
+//! `listing` and `comma_values` write the texts; `lines` has the lines of a listing, and `csv_row` those of the values.
+//! `rows` gathers the rows of a table in any `RowFormat`; `Seconds`, `HexByte` and `move_count` are for these formats.
 #![tactic(auto)]
 
 mod comma_values;
+mod counting;
 mod csv_row;
-mod escaped_char;
 mod hex_byte;
 mod laws;
-mod level;
-mod level_list;
-mod level_page;
-mod level_rows;
-mod level_section;
-mod level_set;
 mod lines;
 mod listing;
-mod markup;
-mod move_count;
-mod page;
-mod page_head;
-mod page_row;
-mod password;
 mod row_format;
 mod rows;
 mod seconds;
 mod sending;
-mod side_by_side;
-mod time_left;
-mod totals;
 
 pub use byte_output::OutFault;
 pub use comma_values::write_csv;
-pub use laws::{comma_separated, escaped, self_contained};
-pub use level::Level;
-pub use level_list::read_levels;
-pub use level_page::write_page_by;
-pub use level_set::{SHOWN_NAME, ShownName, set_name};
+pub use counting::move_count;
+pub use hex_byte::HexByte;
+pub use laws::comma_separated;
 pub use listing::show;
-pub use page::{write_page, write_page_with};
-pub use time_left::{NO_LIMIT, TimeLeft};
+pub use row_format::RowFormat;
+pub use rows::send_rows;
+pub use seconds::Seconds;

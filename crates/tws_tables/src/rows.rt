@@ -3,9 +3,9 @@
 ghost use Rattle.std.specs.Prelude.{◌++◌, string_bytes, [], ◌∷◌, OnOk, OnErr};
 ghost use Rattle.byte_output.specs.Output.{Sends, AppendsPrefix};
 ghost use Rattle.tws_file.specs.Record.{record_of, records_of};
-ghost use Rattle.tws_tables.specs.Steps.{row_of, rows_of};
+ghost use Rattle.tws_tables.specs.Solved.{rows_by};
 
-use crate::row_format::{RowFormat, push_row};
+use crate::row_format::RowFormat;
 use crate::sending::send_if_large;
 use byte_output::OutFault;
 use std::alloc::Allocator;
@@ -13,28 +13,28 @@ use std::io::Write;
 use tws_file::{Record, Solution};
 
 // Gathers the row of a solution.
-fn send_row<A: Allocator, B: Allocator, W: Write>(
+fn send_row<F: RowFormat, A: Allocator, B: Allocator, W: Write>(
     text: &mut String<A>,
-    format: RowFormat,
-    s: &Solution<B>,
+    format: &F,
+    solution: &Solution<B>,
     out: &mut W,
 ) -> Result<(), OutFault>
-    ensures ok { OnOk result (Sends (W.contents out.old) (W.contents out.new) (string_bytes text.old ++ row_of format s.now) (string_bytes text.new)) }
-    ensures err { OnErr result (AppendsPrefix (W.contents out.old) (W.contents out.new) (string_bytes text.old ++ row_of format s.now)) }
+    ensures ok { OnOk result (Sends (W.contents out.old) (W.contents out.new) (string_bytes text.old ++ F.row_text format.now solution.now) (string_bytes text.new)) }
+    ensures err { OnErr result (AppendsPrefix (W.contents out.old) (W.contents out.new) (string_bytes text.old ++ F.row_text format.now solution.now)) }
 {
-    push_row(text, format, s)?;
+    format.push_row(text, solution)?;
     send_if_large(text, out)
 }
 
 // Gathers the row of a record, if it is a solution.
-fn send_record<A: Allocator, B: Allocator, W: Write>(
+fn send_record<F: RowFormat, A: Allocator, B: Allocator, W: Write>(
     text: &mut String<A>,
-    format: RowFormat,
+    format: &F,
     one: &Record<B>,
     out: &mut W,
 ) -> Result<(), OutFault>
-    ensures ok { OnOk result (Sends (W.contents out.old) (W.contents out.new) (string_bytes text.old ++ rows_of format (record_of one.now ∷ [])) (string_bytes text.new)) }
-    ensures err { OnErr result (AppendsPrefix (W.contents out.old) (W.contents out.new) (string_bytes text.old ++ rows_of format (record_of one.now ∷ []))) }
+    ensures ok { OnOk result (Sends (W.contents out.old) (W.contents out.new) (string_bytes text.old ++ rows_by (F.row_text format.now) (record_of one.now ∷ [])) (string_bytes text.new)) }
+    ensures err { OnErr result (AppendsPrefix (W.contents out.old) (W.contents out.new) (string_bytes text.old ++ rows_by (F.row_text format.now) (record_of one.now ∷ []))) }
 {
     match one {
         Record::Solution(solution) => send_row(text, format, solution, out),
@@ -42,15 +42,21 @@ fn send_record<A: Allocator, B: Allocator, W: Write>(
     }
 }
 
-/// Gathers the rows of the records, and writes the gathered text out as it grows large.
-pub(crate) fn send_rows<A: Allocator, B: Allocator, W: Write>(
+/// Appends the rows of the records to a text that was gathered for this writer, and writes the text out as it grows large.
+/// What was not written is left in it.
+///
+/// # Errors
+///
+/// `Io` if the writer fails, `Memory` if an allocation was refused. A proper prefix of the text and the rows was written, and
+/// the text is unspecified.
+pub fn send_rows<F: RowFormat, A: Allocator, B: Allocator, W: Write>(
     text: &mut String<A>,
-    format: RowFormat,
+    format: &F,
     records: &[Record<B>],
     out: &mut W,
 ) -> Result<(), OutFault>
-    ensures ok { OnOk result (Sends (W.contents out.old) (W.contents out.new) (string_bytes text.old ++ rows_of format (records_of records.now)) (string_bytes text.new)) }
-    ensures err { OnErr result (AppendsPrefix (W.contents out.old) (W.contents out.new) (string_bytes text.old ++ rows_of format (records_of records.now))) }
+    ensures ok { OnOk result (Sends (W.contents out.old) (W.contents out.new) (string_bytes text.old ++ rows_by (F.row_text format.now) (records_of records.now)) (string_bytes text.new)) }
+    ensures err { OnErr result (AppendsPrefix (W.contents out.old) (W.contents out.new) (string_bytes text.old ++ rows_by (F.row_text format.now) (records_of records.now))) }
 {
     for record in records {
         send_record(text, format, record, out)?;

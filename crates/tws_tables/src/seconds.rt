@@ -7,7 +7,7 @@ use std::fmt;
 
 /// Displays a time, given in ticks, in seconds with two decimals. A second has 20 ticks.
 #[derive(Clone, Copy)]
-pub(crate) struct Seconds(pub(crate) u128);
+pub struct Seconds(pub u128);
 
 impl fmt::Display for Seconds {
     ghost output = { λ s. Some (seconds_text s.0) };

@@ -30,6 +30,7 @@ pub mod calling_tws_best;
 pub mod calling_tws_compare;
 pub mod calling_tws_file;
 pub mod calling_tws_moves;
+pub mod calling_tws_pages;
 pub mod calling_tws_reader;
 pub mod calling_tws_tables;
 pub mod calling_tws_tool;

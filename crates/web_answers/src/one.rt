@@ -3,15 +3,16 @@
 ghost use Rattle.std.specs.Prelude.{[], ◌∷◌, IfOk, IfErr};
 ghost use Rattle.tws_file.specs.Packing.{packed_text};
 ghost use Rattle.tws_tables.specs.Csv.{csv_of};
-ghost use Rattle.tws_tables.specs.Page.{page_of};
+ghost use Rattle.tws_pages.specs.Page.{page_of};
 ghost use Rattle.tws_file.specs.Text.{IsText};
 ghost use Rattle.web_answers.specs.Answers.{Answers, FailsAlone};
 
 use crate::web_fault::WebFault;
 use std::alloc::Allocator;
 use tws_file::{TwsFile, pack, write_file};
+use tws_pages::write_page;
 use tws_reader::read_file;
-use tws_tables::{write_csv, write_page};
+use tws_tables::write_csv;
 
 // The file with this text.
 fn read<A: Allocator + Copy>(alloc: A, bytes: &[u8]) -> Result<TwsFile<A>, WebFault>

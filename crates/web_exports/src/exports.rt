@@ -7,7 +7,7 @@ ghost use Rattle.tws_compare.specs.Compare.{better_of, rows_of};
 ghost use Rattle.tws_compare.specs.Lines.{comparison_text};
 ghost use Rattle.tws_file.specs.Packing.{packed_text};
 ghost use Rattle.tws_tables.specs.Csv.{csv_of};
-ghost use Rattle.tws_tables.specs.Page.{page_of};
+ghost use Rattle.tws_pages.specs.Page.{page_of};
 ghost use Rattle.web_answers.specs.Answers.{Answers, AnswersBest, AnswersBoth, Fails, FailsAlone};
 ghost use Rattle.web_exports.specs.Delivery.{Delivers};
 

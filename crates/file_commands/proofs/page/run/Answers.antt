@@ -1,6 +1,6 @@
 use Rattle.std.proofs.Common.{◌≡◌, ℕ, List, Option, inl, subst, string_bytes}
 use Rattle.std.specs.Prelude.{option_map}
-use Rattle.tws_tables.specs.declared.level.Level.{Level}
+use Rattle.tws_pages.specs.declared.level.Level.{Level}
 use Rattle.command_line.specs.declared.source.Source.{Source}
 use Rattle.show_commands.specs.SeveralInputs.{FilesRanFrom}
 use Rattle.file_commands.specs.Page.{PagePrefix, PageWrites}

@@ -6,7 +6,7 @@ use Rattle.tws_tables.proofs.rows.send_rows.Goals as goal
 
 pub returns-in_err-send_record-clause-err : goal.returns-in_err-send_record-clause-err
 returns-in_err-send_record-clause-err g c =
-    let f = c.args.format in
+    let f = g.F.RowFormat.row_text c.args.format.now in
     let old = g.W.Write.contents c.args.out.now in
     let mid = g.W.Write.contents c.loop-record.out in
     let new = g.W.Write.contents c.send_record.new.out in
@@ -24,7 +24,7 @@ returns-in_err-send_record-clause-err g c =
 
 pub loop-record-preserved : goal.loop-record-preserved
 loop-record-preserved g c =
-    let f = c.args.format in
+    let f = g.F.RowFormat.row_text c.args.format.now in
     let old = g.W.Write.contents c.args.out.now in
     let mid = g.W.Write.contents c.loop-record.out in
     let new = g.W.Write.contents c.send_record.new.out in

@@ -1,0 +1,6 @@
+pub mod Counted
+pub mod Parts
+pub mod Wholes
+pub mod Escapes
+pub mod Named
+pub mod Leveled

@@ -1,0 +1,9 @@
+pub mod Escaping
+pub mod SetName
+pub mod Levels
+pub mod TimeLeft
+pub mod Page
+pub mod LevelTable
+pub mod SideBySide
+pub mod LevelPage
+pub mod Steps

@@ -1,9 +1,0 @@
-use Rattle.std.proofs.Common.{refl}
-use Rattle.tws_tables.specs.Page.{page_body, page_end, page_start, page_style, table_end, table_head}
-use Rattle.tws_tables.specs.LevelTable.{level_table_head}
-use Rattle.tws_tables.specs.SideBySide.{sides_head}
-use Rattle.tws_tables.proofs.laws.self_contained.Goals as goal
-
-pub returns : goal.returns
-unfolding page_body page_end page_start page_style table_end table_head level_table_head sides_head
-returns c = refl

@@ -1,7 +1,0 @@
-use Rattle.std.proofs.Common.{◌≡◌, ◌++◌, take, map, string_bytes}
-use Rattle.tws_tables.specs.Escaping.{escaped}
-use Rattle.tws_tables.specs.SetName.{shown_byte}
-use Rattle.tws_tables.proofs.level_rows.push_shown.Given as goal
-
-abbrev pub invariant-loop-byte : goal.invariant-loop-byte
-invariant-loop-byte g l = string_bytes l.text ≡ string_bytes l.initial.text ++ escaped (map shown_byte (take l.byte-index l.name))
