@@ -13,7 +13,8 @@ const at = (name) => path.join(folder, name);
 const made = (...words) => spawnSync(program, words, { maxBuffer: 1 << 28 }).stdout;
 const isReady = "document.body && document.body.dataset.ready === '1'";
 const texts = (selector) => `[...document.querySelectorAll(${JSON.stringify(selector)})].map((one) => one.textContent)`;
-const said = "document.getElementById('said').textContent";
+// Nothing while the page is still being read.
+const said = "document.getElementById('said')?.textContent";
 const counts = "document.getElementById('counts').textContent";
 
 // What is looked at: a name, a width, a height, and colours.
@@ -153,7 +154,7 @@ async function tooOld() {
   const old = fs.readFileSync(page, "utf8").replace(/(id="module">)[^<]*/, "$1AGFzbQEAAAAFAwFAAQ==");
   fs.writeFileSync(at("old.html"), old);
   const tab = await openPage(browser, `file://${path.resolve(at("old.html"))}`);
-  check("an old browser is told", await tab.until(`document.body && ${said}.startsWith("This browser cannot run the page: ")`));
+  check("an old browser is told", await tab.until(`${said}.startsWith("This browser cannot run the page: ")`));
 }
 
 /** The page in a folder that an archive publishes. */
