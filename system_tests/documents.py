@@ -170,7 +170,7 @@ def files():
 @functools.cache
 def options():
     """The options of the program, by its command line."""
-    sources = [path.read_text() for crate in ("show_commands", "file_commands", "archive_commands", "tws_tool") for path in Path(f"crates/{crate}/src").rglob("*.rt")]
+    sources = [path.read_text() for crate in ("show_commands", "file_commands", "archive_arguments", "archive_commands", "archive_serving", "host_serving", "tws_tool") for path in Path(f"crates/{crate}/src").rglob("*.rt")]
     names = re.compile(r'(?:\.long\(|(?:number|text|flag)_argument\(\s*alloc,)\s*"([\w-]+)"')
     return {f"--{name}" for text in sources for name in names.findall(text)} | {"--help", "--version"}
 

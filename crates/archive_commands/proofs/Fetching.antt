@@ -12,13 +12,14 @@ use Rattle.archive_commands.specs.declared.limits.TheConstants.{ROUNDS}
 use Rattle.archive_commands.specs.declared.get.GetArguments.{GetArguments}
 use Rattle.command_line.specs.declared.tool_fault.ToolFault.{ToolFault}
 use Rattle.command_line.specs.declared.tool_fault.ToolFault.TheVariants.{Read, Write, Unreadable, Memory, Socket, Transfer}
-use Rattle.archive_commands.specs.Address.{Locates}
+use Rattle.archive_commands.specs.Locating.{Locates}
 use Rattle.archive_commands.specs.Get.{FetchFails, FetchFault, Fetches, FetchesOther, GetEnded, GetFails, GetRan, GetRuns, Gets, JudgeFault, ReceiveFault, get_drafted}
 use Rattle.archive_commands.specs.Faults.{run_fault}
 use Rattle.command_line.specs.Faults.{answer_status, status_of}
 use Rattle.system_files.specs.Files.{Keeps, Publishes}
 use Rattle.archive_commands.specs.Known.{Known}
-use Rattle.archive_commands.specs.Lines.{LineFails, Unsaid, got_line}
+use Rattle.archive_commands.specs.Lines.{Unsaid, got_line}
+use Rattle.archive_arguments.specs.Lines.{LineFails}
 use Rattle.command_line.proofs.Statuses.{map_err, map_ok, no_usage}
 use Rattle.archive_commands.proofs.Statuses.{no_host, transfers}
 

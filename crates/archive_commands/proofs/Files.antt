@@ -15,10 +15,11 @@ use Rattle.command_line.specs.declared.tool_fault.ToolFault.TheVariants as tool
 use Rattle.command_line.specs.Inputs.{has_standard, is_standard}
 use Rattle.archive_commands.specs.declared.limits.TheConstants.{ROUNDS}
 use Rattle.archive_commands.specs.declared.put.PutArguments.{PutArguments}
-use Rattle.archive_commands.specs.Address.{Locates}
+use Rattle.archive_commands.specs.Locating.{Locates}
 use Rattle.archive_commands.specs.Faults.{run_fault}
 use Rattle.archive_commands.specs.Labels.{are_several, label_of}
-use Rattle.archive_commands.specs.Lines.{LineFails, sent_line}
+use Rattle.archive_commands.specs.Lines.{sent_line}
+use Rattle.archive_arguments.specs.Lines.{LineFails}
 use Rattle.archive_commands.specs.PutFiles.{AreRead, FailsToRead, HasRead, IsUnread, PutsFiles, PutsText, SaysWhole, SendsEach, SendsOne, status_among}
 use Rattle.archive_commands.specs.PutRan.{PutRan}
 use Rattle.archive_commands.specs.Syncing.{first_of}

@@ -1,10 +1,6 @@
-pub mod Addresses
 pub mod Fetching
 pub mod Files
-pub mod Listening
-pub mod Listing
 pub mod Plans
-pub mod Ranges
 pub mod Said
 mod Sending
 pub mod Statuses

@@ -12,7 +12,7 @@ use Rattle.archive_sync.specs.News.{Told}
 use Rattle.archive_sync.specs.Fetching.{FetchesNewsOf, NewsOfFails, PutsPart}
 use Rattle.command_line.specs.declared.tool_fault.ToolFault.{ToolFault}
 use Rattle.archive_commands.specs.declared.limits.TheConstants.{ROUNDS}
-use Rattle.archive_commands.specs.Lines.{LineFails}
+use Rattle.archive_arguments.specs.Lines.{LineFails}
 use Rattle.archive_commands.specs.PutBetter.{Compared, IsRulesOf, PutsAndSays, PutsBetter, PutsCompared, SaysBetter, better_text}
 
 -- ---- the ruleset of a file

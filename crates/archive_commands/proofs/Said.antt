@@ -1,5 +1,5 @@
 -- What was printed of a fault.
-use Rattle.std.proofs.Common.{◌≡◌, ◌≢◌, ◌⊎◌, ◌==◌, inl, inr, ap, ℕ, Bor, option_map, unwrap_or, Bool, true, false, List, [], ◌∷◌, length, Option, Some, None, refl, sym, subst, ◌<◌, ◌+◌, ◌++◌, ◌∙◌, take, get_or, drop, take-append-drop}
+use Rattle.std.proofs.Common.{◌≡◌, ◌≢◌, ◌⊎◌, ◌==◌, inl, inr, ap, ℕ, Bool, true, false, List, [], ◌∷◌, length, Option, Some, None, refl, sym, subst, ◌<◌, ◌+◌, ◌++◌, ◌∙◌, take, get_or, drop, take-append-drop}
 use Rattle.std.proofs.lemmas.List.{drop_more, take_more}
 use Rattle.byte_output.specs.Output.{AppendsPrefix}
 use Rattle.byte_output.specs.Printable.{shown}
@@ -44,11 +44,6 @@ pub get_reported : {C : Type 0} (cause : Option C) (fault : ToolFault) (file add
     → ReportsFile fault file old new ⊎ ReportsReceived fault address refusal reached old new
 get_reported (Some said) fault file address refusal reached old new reports = inl reports
 get_reported None fault file address refusal reached old new reports = inr reports
-
--- the name of a folder, if there is one
-pub name_given : (folder : Option (Bor (List ℕ))) (other name : Bor (List ℕ)) → name ≡ unwrap_or folder other → name.now ≡ unwrap_or (option_map (λ (n : Bor (List ℕ)). n.now) folder) other.now
-name_given None other name is = ap (λ (n : Bor (List ℕ)). n.now) is
-name_given (Some folder) other name is = ap (λ (n : Bor (List ℕ)). n.now) is
 
 -- ---- of files that were sent one after the other
 

@@ -18,13 +18,15 @@ use Rattle.archive_commands.specs.declared.get.GetArguments.{GetArguments}
 use Rattle.archive_commands.specs.declared.limits.TheConstants.{ROUNDS}
 use Rattle.command_line.specs.declared.tool_fault.ToolFault.{ToolFault}
 use Rattle.command_line.specs.declared.tool_fault.ToolFault.TheVariants.{Read, Write, Unreadable, Memory, Socket, Transfer}
-use Rattle.archive_commands.specs.Address.{Locates}
+use Rattle.archive_commands.specs.Locating.{Locates}
 use Rattle.command_line.specs.Arguments.{HasRuleset, RulesetNames, ruleset_rule}
-use Rattle.archive_commands.specs.Arguments.{HasTarget, address_rule, file_rule, number_rule, port_option}
+use Rattle.archive_commands.specs.Arguments.{HasTarget, address_rule, file_rule}
+use Rattle.archive_arguments.specs.Arguments.{number_rule, port_option}
 use Rattle.command_line.specs.Faults.{answer_status}
 use Rattle.system_files.specs.Files.{Keeps, Publishes}
 use Rattle.archive_commands.specs.Known.{Known}
-use Rattle.archive_commands.specs.Lines.{LineFails, Transfers, got_line}
+use Rattle.archive_commands.specs.Lines.{Transfers, got_line}
+use Rattle.archive_arguments.specs.Lines.{LineFails}
 
 abbrev pub get_name : Text
 get_name = codes "get"

@@ -1,11 +1,9 @@
-pub mod Address
-pub mod Hosts
 pub mod Arguments
 pub mod Faults
 pub mod Known
 pub mod Labels
 pub mod Lines
-pub mod Ports
+pub mod Locating
 pub mod Put
 pub mod Reached
 pub mod Reports
@@ -14,7 +12,6 @@ pub mod PutFiles
 pub mod PutRan
 pub mod PutSaid
 pub mod Get
-pub mod Serve
 pub mod Stopping
 pub mod Syncing
 pub mod Sync

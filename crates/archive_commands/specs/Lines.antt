@@ -1,34 +1,16 @@
 -- The lines that the commands of the archive print, and what a run of one has printed, by its exit status.
-use Rattle.std.specs.Prelude.{◌≡◌, ◌≢◌, ◌⊎◌, ◌↔◌, ℕ, ◌≤◌, List, [], ◌∷◌, ◌++◌, codes, decimal, Option, None}
+use Rattle.std.specs.Prelude.{◌≡◌, ◌≢◌, ◌⊎◌, ◌↔◌, ℕ, ◌≤◌, List, codes, Option, None}
 use Rattle.std.specs.Io.KnownBytes.{Appends}
 use Rattle.byte_output.specs.Output.{AppendsPrefix}
 use Rattle.command_line.specs.declared.tool_fault.ToolFault.{ToolFault}
 use Rattle.command_line.specs.declared.tool_fault.ToolFault.TheVariants.{Read, Write, Unreadable, Memory, Socket, Transfer}
-
--- a number between two texts, as a line
-abbrev pub number_line : (before : List ℕ) (n : ℕ) (after : List ℕ) → List ℕ
-number_line before n after = before ++ decimal n ++ after ++ 10 ∷ []
-
-abbrev pub serving_line : ℕ → List ℕ
-serving_line port = number_line (codes "serving on port ") port []
-
-abbrev pub taken_line : ℕ → List ℕ
-taken_line taken = number_line (codes "taken ") taken []
+use Rattle.archive_arguments.specs.Lines.{number_line}
 
 abbrev pub sent_line : ℕ → List ℕ
 sent_line len = number_line (codes "sent ") len (codes " bytes")
 
 abbrev pub got_line : ℕ → List ℕ
 got_line len = number_line (codes "got ") len (codes " bytes")
-
--- a line was not written: the writer failed in it, or an allocation for it was refused
-abbrev pub LineFails : (line : List ℕ) (old new : Option (List ℕ)) → ToolFault → Type 0
-LineFails line old new Read = ⊥
-LineFails line old new Write = AppendsPrefix old new line
-LineFails line old new (Unreadable index fault) = ⊥
-LineFails line old new Memory = new ≡ old
-LineFails line old new Socket = ⊥
-LineFails line old new (Transfer why) = ⊥
 
 -- ---- by the exit status
 

@@ -20,7 +20,8 @@ use Rattle.archive_commands.specs.declared.limits.TheConstants.{ROUNDS}
 use Rattle.command_line.specs.declared.limits.TheConstants.{INPUT_PIECE}
 use Rattle.command_line.specs.declared.tool_fault.ToolFault.{ToolFault}
 use Rattle.command_line.specs.declared.tool_fault.ToolFault.TheVariants.{Read, Write, Unreadable, Memory, Socket, Transfer}
-use Rattle.archive_commands.specs.Arguments.{HasTarget, address_rule, flag_rule, number_rule, port_option}
+use Rattle.archive_commands.specs.Arguments.{HasTarget, address_rule, flag_rule}
+use Rattle.archive_arguments.specs.Arguments.{number_rule, port_option}
 use Rattle.command_line.specs.Arguments.{HasFlag, HasSources, files_rule}
 use Rattle.archive_commands.specs.Lines.{sent_line}
 use Rattle.archive_commands.specs.Stopping.{first_stopping}

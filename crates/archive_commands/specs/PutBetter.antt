@@ -16,7 +16,8 @@ use Rattle.command_line.specs.declared.tool_fault.ToolFault.{ToolFault}
 use Rattle.command_line.specs.Faults.{answer_status}
 use Rattle.archive_commands.specs.declared.limits.TheConstants.{ROUNDS}
 use Rattle.archive_commands.specs.Faults.{run_fault}
-use Rattle.archive_commands.specs.Lines.{LineFails, sent_line}
+use Rattle.archive_commands.specs.Lines.{sent_line}
+use Rattle.archive_arguments.specs.Lines.{LineFails}
 use Rattle.archive_commands.specs.Syncing.{Stops, sync_status}
 
 -- ---- what it prints

@@ -15,7 +15,8 @@ use Rattle.command_line.specs.Faults.{answer_status, status_of}
 use Rattle.archive_commands.specs.declared.limits.TheConstants.{ROUNDS}
 use Rattle.archive_commands.specs.Faults.{run_fault}
 use Rattle.archive_commands.specs.Labels.{are_several, label_of}
-use Rattle.archive_commands.specs.Lines.{LineFails, sent_line}
+use Rattle.archive_commands.specs.Lines.{sent_line}
+use Rattle.archive_arguments.specs.Lines.{LineFails}
 use Rattle.archive_commands.specs.Put.{IsReadUp, IsWholeInput, WholeFails}
 use Rattle.archive_commands.specs.PutBetter.{PutsBetter}
 use Rattle.archive_commands.specs.Stopping.{IsFirstStopping, stopping_lines}

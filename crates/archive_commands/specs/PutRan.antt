@@ -3,7 +3,7 @@ use Rattle.std.specs.Prelude.{◌≡◌, ◌≢◌, ◌↔◌, ℕ, ◌≤◌, f
 use Rattle.archive_wire.specs.Wire.{Entry}
 use Rattle.command_line.specs.Inputs.{has_standard}
 use Rattle.archive_commands.specs.declared.put.PutArguments.{PutArguments}
-use Rattle.archive_commands.specs.Address.{Locates}
+use Rattle.archive_commands.specs.Locating.{Locates}
 use Rattle.archive_commands.specs.PutFiles.{PutsFiles}
 
 -- What it did, by the exit status, given what is known of the bytes of the file with each name, and of the hosts of

@@ -8,7 +8,8 @@ use Rattle.command_line.specs.Saying.{Says}
 use Rattle.command_line.specs.Printing.{Printed}
 use Rattle.archive_commands.specs.Labels.{are_several}
 use Rattle.archive_commands.specs.PutFiles.{AreRead, NotesStopping}
-use Rattle.archive_commands.specs.Reports.{ReportsFirst, SaysThen, bad_address_lines, no_host_reason, swapped_reason}
+use Rattle.archive_commands.specs.Reports.{ReportsFirst, SaysThen, no_host_reason, swapped_reason}
+use Rattle.archive_arguments.specs.Address.{bad_address_lines}
 use Rattle.archive_commands.specs.Stopping.{IsFirstStopping, stopping_lines}
 
 -- What was said on standard error, given what is known of the bytes of the file with each name, and what standard input had: of

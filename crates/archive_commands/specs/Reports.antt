@@ -18,19 +18,14 @@ use Rattle.archive_sync.specs.declared.sync_fault.SyncFault.{SyncFault}
 use Rattle.archive_sync.specs.declared.sync_fault.SyncFault.TheVariants.{From, To, News}
 use Rattle.command_line.specs.Faults.{answer_status, input_fault, status_of}
 use Rattle.command_line.specs.Saying.{Says}
-use Rattle.command_line.specs.Printing.{Printed, Prints, PrintsCause, Reports, ReportsFile, fault_text, line_about, plain_line, report_lines}
-use Rattle.archive_keepers.specs.declared.replaced.Replaced.{Replaced}
-use Rattle.archive_keepers.specs.Replaced.{replaced_text}
+use Rattle.command_line.specs.Printing.{Printed, PrintsCause, ReportsFile, fault_text, line_about, plain_line, report_lines}
+use Rattle.archive_arguments.specs.Address.{bad_address_lines}
 use Rattle.archive_commands.specs.declared.reached.Reached.{Reached}
-use Rattle.archive_commands.specs.Address.{address_hint}
 use Rattle.archive_commands.specs.Faults.{run_fault}
 use Rattle.archive_commands.specs.Labels.{are_several}
 use Rattle.archive_commands.specs.Syncing.{sync_status}
 
 -- ---- an address that cannot be used
-
-abbrev pub bad_address_lines : (address reason : Text) → List (List ℕ)
-bad_address_lines address reason = plain_line (codes "bad address") ∷ line_about address (reason ++ address_hint address) ∷ []
 
 abbrev pub no_host_reason : Text
 no_host_reason = codes "neither an IPv4 address nor a host that can be found"
@@ -183,15 +178,3 @@ abbrev pub SaysThen : (note : List ℕ) → List Source → (address : Text) →
 SaysThen note sources address old new =
     ((mid : Option (List ℕ)) × Says note (mid ≡ old) old mid × ((count : ℕ) × ReportsEach (are_several sources) address (take count sources) mid new))
     ⊎ ((mid : Option (List ℕ)) × AppendsPrefix old mid note × Printed (report_lines Write []) mid new)
-
--- ---- a server that ended
-
--- its keeper, of the folder of this name, is not usable any more: what was replaced, if anything was
-abbrev pub unusable_line : Option Replaced → (name : Text) → List ℕ
-unusable_line (Some replaced) name = line_about name (replaced_text replaced)
-unusable_line None name = line_about name (codes "not known whether kept")
-
--- why it failed, if it did, and that, unless its keeper is usable
-abbrev pub ReportsServed : (usable : Bool) → Result (Unit {0}) ToolFault → Option Replaced → (name : Text) → (old new : Option (List ℕ)) → Type 0
-ReportsServed true done replaced name old new = Reports [] done old new
-ReportsServed false done replaced name old new = (mid : Option (List ℕ)) × Reports [] done old mid × Prints (unusable_line replaced name) mid new

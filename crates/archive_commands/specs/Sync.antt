@@ -5,9 +5,10 @@ use Rattle.archive_wire.specs.Wire.{Entry}
 use Rattle.command_line.specs.Arguments.{HasFlag}
 use Rattle.archive_commands.specs.declared.sync.SyncArguments.{SyncArguments}
 use Rattle.archive_commands.specs.declared.target.Target.{Target}
-use Rattle.archive_commands.specs.declared.limits.TheConstants.{PORT, MAX_PORT}
-use Rattle.archive_commands.specs.Address.{Locates}
-use Rattle.archive_commands.specs.Arguments.{HasNumber, NumberOption, flag_rule, number_rule, port_option}
+use Rattle.archive_arguments.specs.declared.limits.TheConstants.{PORT, MAX_PORT}
+use Rattle.archive_commands.specs.Locating.{Locates}
+use Rattle.archive_commands.specs.Arguments.{flag_rule}
+use Rattle.archive_arguments.specs.Arguments.{HasNumber, NumberOption, number_rule, port_option}
 use Rattle.archive_commands.specs.Syncing.{SyncEnds}
 
 abbrev pub sync_name : Text

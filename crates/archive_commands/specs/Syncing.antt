@@ -18,7 +18,7 @@ use Rattle.command_line.specs.declared.tool_fault.ToolFault.{ToolFault}
 use Rattle.command_line.specs.Faults.{answer_status, input_fault, status_of}
 use Rattle.archive_commands.specs.declared.limits.TheConstants.{ROUNDS}
 use Rattle.archive_commands.specs.Faults.{run_fault}
-use Rattle.archive_commands.specs.Lines.{LineFails, number_line}
+use Rattle.archive_arguments.specs.Lines.{LineFails, number_line}
 
 -- ---- the lines
 

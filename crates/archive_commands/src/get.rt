@@ -11,15 +11,15 @@ ghost use Rattle.system_files.specs.Files.{Keeps};
 ghost use Rattle.archive_commands.specs.Lines.{Unless};
 ghost use Rattle.archive_commands.specs.Reports.{GetReports, ReportsGet};
 
-use crate::address::locate;
-use crate::arguments::{address_argument, file_argument, port_argument, target_given};
+use crate::arguments::{address_argument, file_argument, target_given};
 use crate::limits::ROUNDS;
-use crate::line::write_line;
+use crate::locating::locate;
 use crate::received::receive;
 use crate::reporting::{no_host, report_received};
 use crate::resolver::Resolver;
 use crate::target::Target;
 use crate::transfer_wire::TransferWire;
+use archive_arguments::{port_argument, write_line};
 use archive_runs::GetRun;
 use byte_output::put;
 use clap::{ArgMatches, Command};

@@ -1,26 +1,4 @@
 //! The limits of the commands.
 
-/// The default request port, which needs no privileges.
-pub const PORT: u16 = 6969;
-
-/// The greatest port.
-pub(crate) const MAX_PORT: u16 = 65535;
-
-/// The fewest ports that a server may be given for transfers: twice as many as there are transfers at a time.
-pub const LEAST_PORTS: u16 = 128;
-
-/// The most turns that a server may be given: with quiet turns of 5 ms, two months. A server that is given this many runs
-/// until it is stopped.
-pub const TURNS: u64 = 1_000_000_000;
-
 /// The most rounds that a client makes, each of which waits `TIMEOUT` milliseconds of `archive_wire` at most.
 pub const ROUNDS: u64 = 1_000_000_000;
-
-/// How many bytes a history may have, unless `serve` is given another number.
-pub const HISTORY: u64 = 10_000_000_000;
-
-/// The most bytes that `serve` may be given for a history.
-pub(crate) const MAX_HISTORY: u64 = 1_000_000_000_000_000;
-
-/// How many transfers one host may have, unless `serve` is given another number: half of the places.
-pub const PER_HOST: u64 = 32;

@@ -17,16 +17,14 @@ ghost use Rattle.archive_commands.specs.PutRan.{PutRan};
 ghost use Rattle.archive_commands.specs.Faults.{run_fault};
 ghost use Rattle.archive_commands.specs.Lines.{Unless};
 ghost use Rattle.archive_commands.specs.PutSaid.{PutReports, PutSaid};
-ghost use Rattle.archive_commands.specs.Reports.{bad_address_lines, no_host_reason, swapped_reason};
+ghost use Rattle.archive_commands.specs.Reports.{no_host_reason, swapped_reason};
+ghost use Rattle.archive_arguments.specs.Address.{bad_address_lines};
 ghost use Rattle.archive_commands.specs.Stopping.{IsFirstStopping};
 
-use crate::address::{Address, locate};
-use crate::arguments::{
-    address_argument, files_argument, flag_argument, flag_given, port_argument, target_given,
-};
+use crate::arguments::{address_argument, files_argument, flag_argument, target_given};
 use crate::file_bytes::FileBytes;
 use crate::limits::ROUNDS;
-use crate::line::write_line;
+use crate::locating::locate;
 use crate::put_files::put_files;
 use crate::reporting::{no_host, swapped};
 use crate::resolver::Resolver;
@@ -34,6 +32,7 @@ use crate::run_fault::of_run;
 use crate::target::Target;
 use crate::transfer_wire::TransferWire;
 use crate::whole_file::WholeFile;
+use archive_arguments::{Address, flag_given, port_argument, write_line};
 use archive_runs::{RunFault, put_in_rounds};
 use clap::{ArgMatches, Command};
 use command_line::{Source, ToolFault, new_command, read_to_end, sources_given};

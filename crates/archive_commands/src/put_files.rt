@@ -7,14 +7,14 @@ ghost use Rattle.command_line.specs.declared.tool_fault.ToolFault.{ToolFault as 
 ghost use Rattle.command_line.specs.Faults.{answer_status};
 ghost use Rattle.command_line.specs.Saying.{Says};
 ghost use Rattle.archive_commands.specs.Labels.{are_several, label_of};
-ghost use Rattle.archive_commands.specs.Lines.{LineFails, Unless, sent_line};
+ghost use Rattle.archive_commands.specs.Lines.{Unless, sent_line};
+ghost use Rattle.archive_arguments.specs.Lines.{LineFails};
 ghost use Rattle.archive_commands.specs.PutFiles.{AreRead, FailsToRead, HasRead, IsFailedStatus, IsUnread, NotesStopping, PutsFiles, PutsText, PutsWhole, SendsEach, SendsOne, SendsSaid, status_among};
 ghost use Rattle.archive_commands.specs.PutSaid.{PutReports, PutSaid};
 ghost use Rattle.archive_commands.specs.Reports.{ReportsEach, ReportsFirst, ReportsOne, ReportsSent, ReportsUnread, SaysThen};
 ghost use Rattle.archive_commands.specs.Stopping.{IsFirstStopping, stopping_line};
 
 use crate::labels::{are_several, finish_sent, push_label, report_file_fault};
-use crate::line::push_line;
 use crate::put::{PutArguments, put_shown, read_whole};
 use crate::put_better::put_better;
 use crate::run_fault::of_run;
@@ -22,6 +22,7 @@ use crate::stopping::push_stopping;
 use crate::syncing::first_of;
 use crate::transfer_wire::TransferWire;
 use crate::whole_file::WholeFile;
+use archive_arguments::push_line;
 use byte_output::put;
 use command_line::{
     DONE, NOT_TRANSFERRED, Source, ToolFault, UNREADABLE, report, report_file, say,

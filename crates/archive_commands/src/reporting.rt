@@ -3,44 +3,20 @@
 ghost use Rattle.std.specs.Prelude.{◌≡◌, [], ◌∷◌, map, string_bytes};
 ghost use Rattle.command_line.specs.Faults.{status_of};
 ghost use Rattle.command_line.specs.Printing.{Printed, Prints, report_lines};
-ghost use Rattle.archive_commands.specs.Address.{address_hint};
-ghost use Rattle.archive_commands.specs.Reports.{PrintsMore, ReportsReceived, ReportsTransfer, bad_address_lines, no_answer_line, no_host_reason, other_lines, reached_lines, refusal_lines, stopped_line, swapped_reason};
+ghost use Rattle.archive_arguments.specs.Address.{bad_address_lines};
+ghost use Rattle.archive_commands.specs.Reports.{PrintsMore, ReportsReceived, ReportsTransfer, no_answer_line, no_host_reason, other_lines, reached_lines, refusal_lines, stopped_line, swapped_reason};
 
 use crate::reached::Reached;
 use crate::transfer_wire::TransferWire;
+use archive_arguments::bad_address;
 use archive_client::Cause;
 use byte_output::Printable;
-use command_line::{ToolFault, USAGE, print_about, print_words, report, report_cause};
+use command_line::{ToolFault, print_about, print_words, report, report_cause};
 use std::io::Write;
 use std::net::Ipv4Addr;
 use std::slice;
 use tftp_packet::Endpoint;
 use tws_file::{FileFault, Ruleset};
-
-// What helps with an address that cannot be used: a port after a colon is the first that many try.
-fn hint_of(address: &str) -> &'static str
-    ensures { result.now ≡ address_hint address.now }
-{
-    let colons = address.bytes().filter(|byte| *byte == b':').count();
-    if colons == 0 {
-        ""
-    } else if colons == 1 {
-        "; --port gives the port"
-    } else {
-        "; only IPv4 is used"
-    }
-}
-
-/// Reports an address that cannot be used, with the reason in a second line, and returns the status.
-pub fn bad_address<E: Write>(address: &str, reason: &str, errors: &mut E) -> u8
-    ensures status { result ≡ 1 }
-    ensures printed { Printed (bad_address_lines address.now reason.now) (E.contents errors.old) (E.contents errors.new) }
-{
-    let hint = hint_of(address);
-    print_words("bad address", errors);
-    print_about(address, format_args!("{reason}{hint}"), errors);
-    USAGE
-}
 
 /// Reports that an address is not one, nor the name of a host that can be looked up, and returns the status.
 pub(crate) fn no_host<E: Write>(address: &str, errors: &mut E) -> u8

@@ -5,19 +5,19 @@ ghost use Rattle.clap.specs.Matches.{found_of};
 ghost use Rattle.clap.specs.Words.{app_of, rows_of, rule_of};
 ghost use Rattle.clap.specs.declared.builder.command.Command.TheViews.{out-Command};
 ghost use Rattle.command_line.specs.Arguments.{Answers};
-ghost use Rattle.archive_commands.specs.Arguments.{HasNumber, number_rule, port_option};
+ghost use Rattle.archive_arguments.specs.Arguments.{HasNumber, number_rule, port_option};
 ghost use Rattle.archive_commands.specs.Sync.{AsksToSync, HasPlace, SyncRan, from_rule, place_rule, sync_app, sync_places_app, to_port_option, to_rule};
 
-use crate::address::locate;
-use crate::arguments::{
-    flag_argument, flag_given, number_argument, number_given, port_argument, port_given,
-};
-use crate::limits::{MAX_PORT, PORT};
+use crate::arguments::flag_argument;
+use crate::locating::locate;
 use crate::reporting::no_host;
 use crate::resolver::Resolver;
 use crate::syncing::{Ends, sync_archives};
 use crate::target::Target;
 use crate::transfer_wire::TransferWire;
+use archive_arguments::{
+    MAX_PORT, PORT, flag_given, number_argument, number_given, port_argument, port_given,
+};
 use clap::{Arg, ArgMatches, Command};
 use command_line::{new_command, string_given};
 use std::alloc::{AllocError, Global};

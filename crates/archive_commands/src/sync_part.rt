@@ -2,15 +2,16 @@
 
 ghost use Rattle.std.specs.Prelude.{◌≡◌, ◌≢◌, ◌≤◌, ◌++◌, [], ◌∷◌, OnOk, IfErr, option_map};
 ghost use Rattle.std.specs.Io.KnownBytes.{Appends};
-ghost use Rattle.archive_commands.specs.Lines.{LineFails};
+ghost use Rattle.archive_arguments.specs.Lines.{LineFails};
 ghost use Rattle.archive_commands.specs.Syncing.{PutsOne, PutsSaid, nothing_words, part_line, sent_words};
 
 use crate::limits::ROUNDS;
-use crate::line::{push_words, write_line};
+use crate::line::push_words;
 use crate::run_fault::of_run;
 use crate::sync::SyncArguments;
 use crate::sync_reporting::report_at;
 use crate::transfer_wire::TransferWire;
+use archive_arguments::write_line;
 use archive_sync::put_part;
 use byte_output::put;
 use command_line::{DONE, ToolFault};

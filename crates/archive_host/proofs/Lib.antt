@@ -1,2 +1,1 @@
 mod Paths
-pub mod Dealing

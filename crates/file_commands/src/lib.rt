@@ -19,6 +19,5 @@ mod without;
 pub use best::{BestArguments, run_best};
 pub use compare::{CompareArguments, run_compare};
 pub use file_job::{FileJob, file_job_of, file_program, run_file_job};
-pub use notes::ruleset_line;
 pub use page::{PageArguments, run_page};
 pub use without::{WithoutArguments, run_without};

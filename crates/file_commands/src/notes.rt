@@ -33,12 +33,8 @@ pub(crate) fn name_at(sources: &[Source], index: usize) -> &str
     source_text(&sources[index])
 }
 
-/// The line for the file of this name, which is of this ruleset and not of the one that was asked for.
-///
-/// # Errors
-///
-/// Out of memory.
-pub fn ruleset_line(alloc: Global, name: &str, ruleset: Ruleset) -> Result<String, AllocError>
+// The line for the file of this name, which is of this ruleset and not of the one that was asked for.
+fn ruleset_line(alloc: Global, name: &str, ruleset: Ruleset) -> Result<String, AllocError>
     ensures { IfOk result (λ text. string_bytes text ≡ ruleset_line name.now «ruleset») }
 {
     format!(in alloc; "tws: {name}: the file is of the ruleset {ruleset}\n")

@@ -3,10 +3,10 @@
 // A server and a client, each with a wire of its own on this host.
 use crate::wires::{listening, loopback};
 use archive_client::State;
-use archive_host::UdpWire;
 use archive_keepers::NoKeeper;
 use archive_runs::{GetRun, PutRun};
 use archive_server::{Server, serve_turns};
+use archive_sockets::UdpWire;
 use std::alloc::Global;
 use std::test::Fail;
 use test_samples::HUNDRED;

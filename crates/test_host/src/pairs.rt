@@ -2,7 +2,7 @@
 
 // A wire over sockets of the system with two ports, each of which is visited when it is ready.
 use crate::wires::{ack, listening, loopback};
-use archive_host::UdpWire;
+use archive_sockets::UdpWire;
 use archive_wire::{RECEIVE_SIZE, ReadyWire, Wire, WireFault};
 use std::test::Fail;
 use std::time::Instant;

@@ -1,7 +1,7 @@
 //! Ports that other programs have.
 
 // The port that a wire opens next.
-use archive_host::UdpWire;
+use archive_sockets::UdpWire;
 use archive_wire::{Wire, WireFault};
 
 // A port that was open and is closed again, unused.

@@ -2,7 +2,7 @@
 
 // The wire over sockets of the system.
 use crate::ports::past_port;
-use archive_host::UdpWire;
+use archive_sockets::UdpWire;
 use archive_wire::{RECEIVE_SIZE, ReadyWire, Wire, WireFault};
 use std::net::{Ipv4Addr, SocketAddr, UdpSocket};
 use std::test::Fail;

@@ -1,5 +1,5 @@
 -- The list of all commands: the command line, which job each command asks for, and what each job did. The commands on files
--- are those of `file_commands`, and a command of the archive is defined in `archive_commands`.
+-- are those of `file_commands`, and a command of the archive is defined in `archive_commands` or `archive_serving`.
 use Rattle.std.specs.Prelude.{◌≡◌, ℕ, Bool, List, Option, Result, Ok, Err}
 use Rattle.clap.specs.Words.{App, Row, Text, with_subcommand}
 use Rattle.archive_wire.specs.Wire.{Entry}
@@ -9,7 +9,7 @@ use Rattle.command_line.specs.declared.job_fault.JobFault.{JobFault}
 use Rattle.command_line.specs.Arguments.{RulesetNames}
 use Rattle.command_line.specs.Help.{NoJobRan}
 use Rattle.file_commands.specs.FileJobs.{AsksForFileJob, FileJobRuns, FileJobSaid, files_app}
-use Rattle.archive_commands.specs.Serve.{AsksToServe, ServeRan, serve_app, serve_name}
+use Rattle.archive_serving.specs.Serve.{AsksToServe, ServeRan, serve_app, serve_name}
 use Rattle.archive_commands.specs.Put.{AsksToPut, put_app, put_name}
 use Rattle.archive_commands.specs.PutRan.{PutRan}
 use Rattle.archive_commands.specs.PutSaid.{PutSaid}

@@ -4,8 +4,8 @@ ghost use Rattle.std.specs.Prelude.{None};
 
 use crate::refusal_wire::RefusalWire;
 use archive_commands::Network;
-use archive_host::UdpWire;
 use archive_progress::ProgressWire;
+use archive_sockets::UdpWire;
 use std::alloc::Global;
 use std::io::Write;
 use std::net::Net;

@@ -8,9 +8,9 @@ ghost use Rattle.tws_tool.specs.Jobs.{AsksFor, JobRuns, JobSaid, tws_app};
 
 use crate::serving;
 use archive_commands::{
-    GetArguments, Network, PutArguments, Resolver, ServeArguments, SyncArguments, get, put, serve,
-    sync,
+    GetArguments, Network, PutArguments, Resolver, SyncArguments, get, put, sync,
 };
+use archive_serving::{ServeArguments, serve};
 use clap::{ArgMatches, Command};
 use command_line::add_command;
 use file_commands::{FileJob, file_job_of, file_program, run_file_job};

@@ -7,7 +7,7 @@ ghost use Rattle.archive_wire.specs.Wire.{Grows, received};
 ghost use Rattle.tws_tool.specs.Refusals.{heard, refusal_after};
 
 use archive_commands::{Reached, TransferWire};
-use archive_host::UdpWire;
+use archive_sockets::UdpWire;
 use archive_wire::{RECEIVE_SIZE, Ready, ReadyWire, Wire, WireFault};
 use arrayvec::ArrayVec;
 use std::io;

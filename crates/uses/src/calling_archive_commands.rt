@@ -2,9 +2,10 @@
 
 ghost use Rattle.std.specs.Prelude.{OnOk, Some};
 ghost use Rattle.archive_commands.specs.Put.{Puts};
-ghost use Rattle.archive_commands.specs.declared.limits.TheConstants.{PORT};
+ghost use Rattle.archive_arguments.specs.declared.limits.TheConstants.{PORT};
 
-use archive_commands::{PORT, TransferWire, put_file};
+use archive_arguments::PORT;
+use archive_commands::{TransferWire, put_file};
 use command_line::ToolFault;
 use std::alloc::Global;
 use std::io::Write;

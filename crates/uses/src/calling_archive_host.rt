@@ -1,23 +1,22 @@
 //! A caller of `archive_host`.
 
-use archive_host::UdpWire;
-use archive_keepers::NoKeeper;
-use archive_server::{Server, serve_turns};
-use archive_wire::WireFault;
+use archive_host::DirKeeper;
+use archive_table::Keeper;
 use std::alloc::Global;
-use std::net::Net;
-use std::random::RandomSource;
+use std::fs::File;
+use std::rt::Files;
 use std::time::Clock;
+use tws_file::Ruleset;
 
-/// Makes `turns` turns of a server at this port, and returns how many files were taken. It keeps nothing: a `DirKeeper`
-/// in place of `NoKeeper` keeps the collections in a folder. A client's wire is `UdpWire::new`.
-pub fn serve<P: Net + Clock + RandomSource + AllocGlobal + Copy>(
+/// The collection of this ruleset that the folder of this name keeps, if it keeps one.
+pub fn kept_in<P: Files<File = File> + Clock + AllocGlobal + Copy>(
     rt: P,
     alloc: Global,
-    port: u16,
-    turns: u64,
-) -> Result<u64, WireFault> {
-    let mut wire = UdpWire::listen(rt, port)?;
-    let mut server = Server::new(alloc, port);
-    Ok(serve_turns(&mut wire, &mut NoKeeper, &mut server, turns))
+    name: &str,
+    ruleset: Ruleset,
+) -> Option<Vec<u8>> {
+    let mut keeper = DirKeeper::open(rt, name).ok()?;
+    let kept = keeper.load(alloc, ruleset).ok()?;
+    drop(keeper);
+    kept
 }

@@ -2,6 +2,7 @@
 //! of its library.
 #![tactic(auto)]
 
+pub mod calling_archive_arguments;
 pub mod calling_archive_client;
 pub mod calling_archive_commands;
 pub mod calling_archive_history;
@@ -13,6 +14,8 @@ pub mod calling_archive_pace;
 pub mod calling_archive_progress;
 pub mod calling_archive_runs;
 pub mod calling_archive_server;
+pub mod calling_archive_serving;
+pub mod calling_archive_sockets;
 pub mod calling_archive_sync;
 pub mod calling_archive_table;
 pub mod calling_archive_wire;
@@ -21,6 +24,7 @@ pub mod calling_byte_output;
 pub mod calling_command_line;
 pub mod calling_file_commands;
 pub mod calling_folders;
+pub mod calling_host_serving;
 pub mod calling_refusing;
 pub mod calling_show_commands;
 pub mod calling_system_files;

@@ -1,7 +1,8 @@
 use Rattle.std.proofs.lemmas.Result.{IfOk-weaker}
 use Rattle.clap.specs.Words.{new_app, with_rule}
 use Rattle.command_line.specs.Arguments.{ruleset_rule}
-use Rattle.archive_commands.specs.Arguments.{address_rule, file_rule, number_rule, port_option}
+use Rattle.archive_commands.specs.Arguments.{address_rule, file_rule}
+use Rattle.archive_arguments.specs.Arguments.{number_rule, port_option}
 use Rattle.archive_commands.specs.Get.{get_name}
 use Rattle.command_line.proofs.Building.{adds_rule, stays_local}
 use Rattle.archive_commands.proofs.get.command.Goals as goal

@@ -1,8 +1,9 @@
 use Rattle.std.proofs.Common.{inl, inr, rules, ◌≡◌, ℕ, List, Option, Some, Ok, Err, sym, subst, string_bytes}
-use Rattle.archive_commands.specs.Address.{Locates}
+use Rattle.archive_commands.specs.Locating.{Locates}
 use Rattle.archive_commands.specs.Get.{GetFails, GetRan, Gets}
 use Rattle.archive_commands.specs.Known.{Known}
-use Rattle.archive_commands.specs.Reports.{bad_address_lines, no_host_reason}
+use Rattle.archive_commands.specs.Reports.{no_host_reason}
+use Rattle.archive_arguments.specs.Address.{bad_address_lines}
 use Rattle.command_line.specs.Printing.{Printed}
 use Rattle.archive_commands.proofs.Fetching.{get_ran}
 use Rattle.archive_commands.proofs.Said.{get_reported}

@@ -1,6 +1,7 @@
 use Rattle.std.proofs.Common.{ℕ, List, inl, inr, subst}
 use Rattle.command_line.specs.Printing.{Printed}
-use Rattle.archive_commands.specs.Reports.{bad_address_lines, no_host_reason, swapped_reason}
+use Rattle.archive_commands.specs.Reports.{no_host_reason, swapped_reason}
+use Rattle.archive_arguments.specs.Address.{bad_address_lines}
 use Rattle.archive_commands.proofs.put.not_located.Goals as goal
 
 pub returns-in-Some-Named-clause-printed : goal.returns-in-Some-Named-clause-printed

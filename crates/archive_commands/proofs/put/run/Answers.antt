@@ -1,5 +1,5 @@
 use Rattle.std.proofs.Common.{rules, ◌≡◌, ℕ, List, Option, Some, subst, string_bytes}
-use Rattle.archive_commands.specs.Address.{Locates}
+use Rattle.archive_commands.specs.Locating.{Locates}
 use Rattle.archive_commands.proofs.Files.{put_ran}
 use Rattle.archive_commands.proofs.put.run.Goals as goal
 

@@ -1,6 +1,7 @@
 use Rattle.std.proofs.lemmas.Result.{IfOk-weaker}
 use Rattle.clap.specs.Words.{new_app, with_rule}
-use Rattle.archive_commands.specs.Arguments.{address_rule, number_rule, port_option}
+use Rattle.archive_commands.specs.Arguments.{address_rule}
+use Rattle.archive_arguments.specs.Arguments.{number_rule, port_option}
 use Rattle.command_line.specs.Arguments.{files_rule}
 use Rattle.archive_commands.specs.Put.{put_name}
 use Rattle.command_line.proofs.Building.{adds_rule, stays_local}

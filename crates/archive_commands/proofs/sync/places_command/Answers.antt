@@ -1,6 +1,6 @@
 use Rattle.std.proofs.lemmas.Result.{IfOk-weaker}
 use Rattle.clap.specs.Words.{new_app, with_rule}
-use Rattle.archive_commands.specs.Arguments.{number_rule, port_option}
+use Rattle.archive_arguments.specs.Arguments.{number_rule, port_option}
 use Rattle.archive_commands.specs.Sync.{from_rule, sync_name, to_port_option, to_rule}
 use Rattle.command_line.proofs.Building.{adds_rule, stays_local}
 use Rattle.archive_commands.proofs.sync.places_command.Goals as goal

@@ -3,7 +3,7 @@ use Rattle.clap.specs.Words.{with_subcommand}
 use Rattle.file_commands.specs.FileJobs.{files_app}
 use Rattle.archive_commands.specs.Get.{get_app}
 use Rattle.archive_commands.specs.Put.{put_app}
-use Rattle.archive_commands.specs.Serve.{serve_app}
+use Rattle.archive_serving.specs.Serve.{serve_app}
 use Rattle.archive_commands.specs.Sync.{sync_app}
 use Rattle.tws_tool.proofs.job.command.Goals as goal
 

@@ -1,7 +1,0 @@
-use Rattle.std.proofs.Common.{◌≡◌, None, fold, take, ◌&&◌, nat_lt}
-use Rattle.archive_host.specs.Arrivals.{is_reported, lesser_if}
-use Rattle.archive_host.proofs.open_ports.OpenPorts.ready_above.Given as goal
-
-abbrev pub invariant-loop-open : goal.invariant-loop-open
-invariant-loop-open l =
-    l.least ≡ fold (λ least o. lesser_if (is_reported o.unread && nat_lt l.after o.port) least o.port) None (take l.open-index l.open-items)
